@@ -1,0 +1,4 @@
+pub mod Axes
+pub mod Headers
+pub mod Written
+pub mod Outcomes
