@@ -1,0 +1,9 @@
+pub mod Advancing
+pub mod Chains
+pub mod Choosing
+pub mod Distances
+pub mod Grouped
+pub mod Laws
+pub mod Means
+pub mod Moves
+pub mod Totaled

@@ -1,0 +1,7 @@
+pub mod Advances
+pub mod Choice
+pub mod Distance
+pub mod Groups
+pub mod Rounding
+pub mod Rounds
+pub mod Totals
