@@ -1,0 +1,4 @@
+pub mod Concluding
+pub mod Reading
+pub mod Settling
+pub mod Starts
