@@ -45,20 +45,20 @@ cells-split kind order each row fit =
     fields-commas (cellsIn order row) (omega (arith, length-map order (λ c. signed (getD row c (pos 0))), each .long)) (cells-plain kind order each row fit 44 (λ e. omega arith) (λ d. omega (arith, d .0)))
 
 -- a line that writes a row is not wrong
-line-passes : (kind : FileKind) (order : List ℕ) → EachOnce (width kind) order → (row : List ℤ) → Fits kind row → (rest after text end : List ℕ) (fault : RowFault) → rest ≡ lineOf (cellsIn order row) ++ after → rest ≡ text ++ 10 ∷ end → Lacks 10 text → LineFaulty kind order (fieldsOf text) fault → ⊥
+line-passes : (kind : FileKind) (order : List ℕ) → EachOnce (width kind) order → (row : List ℤ) → Fits kind row → (rest after text end : List ℕ) (fault : RowFault) → rest ≡ lineOf (cellsIn order row) ++ after → rest ≡ text ++ 10 ∷ end → Lacks 10 text → LineFaulty kind order 0 (fieldsOf text) fault → ⊥
 line-passes kind order each row fit rest after text end fault is split whole h =
     let c = cut-unique 10 text (commas (cellsIn order row)) end after whole (cells-whole kind order each row fit) (sym split ∙ is ∙ line-first (cellsIn order row) after) in
-    right-passes kind order each row fit fault (subst (λ fs. LineFaulty kind order fs fault) (ap fieldsOf (c .0) ∙ cells-split kind order each row fit) h)
+    right-passes kind order each 0 row fit fault (subst (λ fs. LineFaulty kind order 0 fs fault) (ap fieldsOf (c .0) ∙ cells-split kind order each row fit) h)
 
 not-wrong : (kind : FileKind) (order : List ℕ) → EachOnce (width kind) order → (row : List ℤ) → Fits kind row → (rest after : List ℕ) (fault : RowFault) → rest ≡ lineOf (cellsIn order row) ++ after → LineWrong kind order rest fault → ⊥
 not-wrong kind order each row fit rest after Unended is h = no-cut 10 (commas (cellsIn order row)) rest after (h .1) (is ∙ line-first (cellsIn order row) after)
 not-wrong kind order each row fit rest after Count is h = line-passes kind order each row fit rest after (h .0) (h .1) Count is (h .2) (h .3) (h .4)
 not-wrong kind order each row fit rest after (Value column fault) is h = line-passes kind order each row fit rest after (h .0) (h .1) (Value column fault) is (h .2) (h .3) (h .4)
 
-one-line : (kind : FileKind) (order : List ℕ) (rest text end text′ end′ : List ℕ) (f g : RowFault) → rest ≡ text ++ 10 ∷ end → Lacks 10 text → LineFaulty kind order (fieldsOf text) f → rest ≡ text′ ++ 10 ∷ end′ → Lacks 10 text′ → LineFaulty kind order (fieldsOf text′) g → f ≡ g
+one-line : (kind : FileKind) (order : List ℕ) (rest text end text′ end′ : List ℕ) (f g : RowFault) → rest ≡ text ++ 10 ∷ end → Lacks 10 text → LineFaulty kind order 0 (fieldsOf text) f → rest ≡ text′ ++ 10 ∷ end′ → Lacks 10 text′ → LineFaulty kind order 0 (fieldsOf text′) g → f ≡ g
 one-line kind order rest text end text′ end′ f g split whole h split′ whole′ h′ =
     let c = cut-unique 10 text text′ end end′ whole whole′ (sym split ∙ split′) in
-    one-fault kind order (fieldsOf text′) f g (subst (λ t. LineFaulty kind order (fieldsOf t) f) (c .0) h) h′
+    one-fault kind order 0 (fieldsOf text′) f g (subst (λ t. LineFaulty kind order 0 (fieldsOf t) f) (c .0) h) h′
 
 one-wrong : (kind : FileKind) (order rest : List ℕ) (f g : RowFault) → LineWrong kind order rest f → LineWrong kind order rest g → f ≡ g
 one-wrong kind order rest Unended Unended a b = refl

@@ -86,11 +86,11 @@ pub shorter : (fields : List (List ℕ)) (rest after : List ℕ) → rest ≡ li
 shorter fields rest after e = omega (arith, ap length (e ∙ line-first fields after), length-append (commas fields) (10 ∷ after))
 
 -- what is read of a line whose end stands
-module _ (kind other : FileKind) (order : List ℕ) (r s : Reader) (result : Result (List ℤ) RowFault) (same : other ≡ kind) (ends : LineEnds r s) (read : columnNumber s ≡ 0 → ValuesRead other order (fieldsLeft s) result) where
-  said : (answer : Result (List ℤ) RowFault) → result ≡ answer → ValuesRead kind order (fieldsOf (ends .text)) answer
-  said answer e = subst (ValuesRead kind order (fieldsOf (ends .text))) e (subst (λ k. ValuesRead k order (fieldsOf (ends .text)) result) same (subst (λ fs. ValuesRead other order fs result) (ends .fields) (read (ends .start))))
+module _ (kind other : FileKind) (order : List ℕ) (r s : Reader) (result : Result (List ℤ) RowFault) (same : other ≡ kind) (ends : LineEnds r s) (read : ValuesRead other order (columnNumber s) (fieldsLeft s) result) where
+  said : (answer : Result (List ℤ) RowFault) → result ≡ answer → ValuesRead kind order 0 (fieldsOf (ends .text)) answer
+  said answer e = subst (ValuesRead kind order 0 (fieldsOf (ends .text))) e (subst (λ k. ValuesRead k order 0 (fieldsOf (ends .text)) result) same (subst (λ fs. ValuesRead other order 0 fs result) (ends .fields) (subst (λ n. ValuesRead other order n (fieldsLeft s) result) (ends .start) read)))
 
-  line-faulty : (f : RowFault) → LineFaulty kind order (fieldsOf (ends .text)) f → LineWrong kind order (nextBytes r) f
+  line-faulty : (f : RowFault) → LineFaulty kind order 0 (fieldsOf (ends .text)) f → LineWrong kind order (nextBytes r) f
   line-faulty Unended h = absurd h
   line-faulty Count h = (ends .text, nextBytes s, ends .split, ends .whole, h)
   line-faulty (Value column fault) h = (ends .text, nextBytes s, ends .split, ends .whole, h)

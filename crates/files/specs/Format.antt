@@ -54,8 +54,8 @@ Unnamed kind bytes = Named kind bytes → ⊥
 -- what stands after the right rows begins with a line that is wrong
 abbrev pub LineWrong : FileKind → List ℕ → List ℕ → RowFault → Type 0
 LineWrong kind order rest Unended = (0 < length rest) × Lacks 10 rest
-LineWrong kind order rest Count = (text : List ℕ) × (after : List ℕ) × (rest ≡ text ++ 10 ∷ after) × Lacks 10 text × LineFaulty kind order (fieldsOf text) Count
-LineWrong kind order rest (Value column fault) = (text : List ℕ) × (after : List ℕ) × (rest ≡ text ++ 10 ∷ after) × Lacks 10 text × LineFaulty kind order (fieldsOf text) (Value column fault)
+LineWrong kind order rest Count = (text : List ℕ) × (after : List ℕ) × (rest ≡ text ++ 10 ∷ after) × Lacks 10 text × LineFaulty kind order 0 (fieldsOf text) Count
+LineWrong kind order rest (Value column fault) = (text : List ℕ) × (after : List ℕ) × (rest ≡ text ++ 10 ∷ after) × Lacks 10 text × LineFaulty kind order 0 (fieldsOf text) (Value column fault)
 
 -- what is said of a file that ends after n rows
 abbrev pub whenEnded : FileKind → ℕ → Option FileFault

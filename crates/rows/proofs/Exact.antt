@@ -82,21 +82,21 @@ one-cell-fault range field OutOfRange NotAValue a b = absurd (b (a .0) (a .1))
 one-cell-fault range field OutOfRange OutOfRange a b = refl
 
 pub right-passes : RightLinesPass
-right-passes kind order each row fit Unended h = h
-right-passes kind order each row fit Count h = h (length-map order (λ c. signed (getD row c (pos 0))) ∙ each .long)
-right-passes kind order each row fit (Value column fault) h = right-cell kind (getD order (h .0) 0) (getD (cellsIn order row) (h .0) []) fault (right-at kind order each row fit (h .0) (h .2)) (h .5)
+right-passes kind order each before row fit Unended h = h
+right-passes kind order each before row fit Count h = h (length-map order (λ c. signed (getD row c (pos 0))) ∙ each .long)
+right-passes kind order each before row fit (Value column fault) h = right-cell kind (getD order (h .0) 0) (getD (cellsIn order row) (h .0) []) fault (right-at kind order each row fit (h .0) (h .2)) (h .5)
 
 pub one-fault : OneFirstFault
-one-fault kind order fields Unended g a b = absurd a
-one-fault kind order fields Count Unended a b = absurd b
-one-fault kind order fields Count Count a b = refl
-one-fault kind order fields Count (Value d g) a b = absurd (a (b .3))
-one-fault kind order fields (Value c f) Unended a b = absurd b
-one-fault kind order fields (Value c f) Count a b = absurd (b (a .3))
-one-fault kind order fields (Value c f) (Value d g) a b =
+one-fault kind order before fields Unended g a b = absurd a
+one-fault kind order before fields Count Unended a b = absurd b
+one-fault kind order before fields Count Count a b = refl
+one-fault kind order before fields Count (Value d g) a b = absurd (a (b .3))
+one-fault kind order before fields (Value c f) Unended a b = absurd b
+one-fault kind order before fields (Value c f) Count a b = absurd (b (a .3))
+one-fault kind order before fields (Value c f) (Value d g) a b =
     elim (cases-order (a .0) (b .0)) [
       | inl same ↦
-          let place : c ≡ d = a .1 ∙ ap (λ k. k + 1) same ∙ sym (b .1) in
+          let place : c ≡ d = a .1 ∙ ap (λ k. before + k + 1) same ∙ sym (b .1) in
           let fault : f ≡ g = one-cell-fault (rangeAt kind (getD order (b .0) 0)) (getD fields (b .0) []) f g (subst (λ k. CellFaulty (rangeAt kind (getD order k 0)) (getD fields k []) f) same (a .5)) (b .5) in
           λ i. Value (place i) (fault i)
       | inr (inl less) ↦ absurd (right-cell kind (getD order (a .0) 0) (getD fields (a .0) []) f (b .4 (a .0) less) (a .5))

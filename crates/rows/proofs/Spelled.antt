@@ -95,10 +95,10 @@ cell-right range range′ bytes field place r z h e same is =
     (subst (λ t. Spells t z) (sym is) (at .0), subst (λ x. Within x z) same (at .1))
 
 -- the field of place k is the first that is no value of its column
-first-wrong : (kind : FileKind) (order : List ℕ) (fields : List (List ℕ)) (k : ℕ) (range : ValueRange) (bytes : List ℕ) (place : ℕ) (f : RowFault) → CellReadAt range bytes place (Err f) → range ≡ rangeAt kind (getD order k 0) → getD fields k [] ≡ bytes → place ≡ k + 1 → k < width kind → length fields ≡ width kind → ((i : ℕ) → i < k → Right kind (getD order i 0) (getD fields i [])) → LineFaulty kind order fields f
-first-wrong kind order fields k range bytes place Unended h same is at l long before = absurd h
-first-wrong kind order fields k range bytes place Count h same is at l long before = absurd h
-first-wrong kind order fields k range bytes place (Value column fault) h same is at l long before = (k, h .0 ∙ at, l, long, before, subst (λ x. CellFaulty x (getD fields k []) fault) same (subst (λ t. CellFaulty range t fault) (sym is) (h .1)))
+first-wrong : (kind : FileKind) (order : List ℕ) (before : ℕ) (fields : List (List ℕ)) (k : ℕ) (range : ValueRange) (bytes : List ℕ) (place : ℕ) (f : RowFault) → CellReadAt range bytes place (Err f) → range ≡ rangeAt kind (getD order k 0) → getD fields k [] ≡ bytes → place ≡ before + k + 1 → k < width kind → length fields ≡ width kind → ((i : ℕ) → i < k → Right kind (getD order i 0) (getD fields i [])) → LineFaulty kind order before fields f
+first-wrong kind order before fields k range bytes place Unended h same is at l long right = absurd h
+first-wrong kind order before fields k range bytes place Count h same is at l long right = absurd h
+first-wrong kind order before fields k range bytes place (Value column fault) h same is at l long right = (k, h .0 ∙ at, l, long, right, subst (λ x. CellFaulty x (getD fields k []) fault) same (subst (λ t. CellFaulty range t fault) (sym is) (h .1)))
 
-pub cell-wrong : (kind : FileKind) (order : List ℕ) (fields : List (List ℕ)) (k : ℕ) (range : ValueRange) (bytes : List ℕ) (place : ℕ) (r : Result ℤ RowFault) (f : RowFault) → CellReadAt range bytes place r → r ≡ Err f → range ≡ rangeAt kind (getD order k 0) → getD fields k [] ≡ bytes → place ≡ k + 1 → k < width kind → length fields ≡ width kind → ((i : ℕ) → i < k → Right kind (getD order i 0) (getD fields i [])) → LineFaulty kind order fields f
-cell-wrong kind order fields k range bytes place r f h e = first-wrong kind order fields k range bytes place f (subst (CellReadAt range bytes place) e h)
+pub cell-wrong : (kind : FileKind) (order : List ℕ) (before : ℕ) (fields : List (List ℕ)) (k : ℕ) (range : ValueRange) (bytes : List ℕ) (place : ℕ) (r : Result ℤ RowFault) (f : RowFault) → CellReadAt range bytes place r → r ≡ Err f → range ≡ rangeAt kind (getD order k 0) → getD fields k [] ≡ bytes → place ≡ before + k + 1 → k < width kind → length fields ≡ width kind → ((i : ℕ) → i < k → Right kind (getD order i 0) (getD fields i [])) → LineFaulty kind order before fields f
+cell-wrong kind order before fields k range bytes place r f h e = first-wrong kind order before fields k range bytes place f (subst (CellReadAt range bytes place) e h)

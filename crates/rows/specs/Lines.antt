@@ -50,12 +50,13 @@ NamesRead kind fields None = (order : List ℕ) → EachOnce (width kind) order 
 abbrev pub Right : FileKind → ℕ → List ℕ → Type 0
 Right kind c field = (z : ℤ) × Spells field z × Within (rangeAt kind c) z
 
--- the first fault of a line with these fields: their number, else the first field that is no value of its column
-abbrev pub LineFaulty : FileKind → List ℕ → List (List ℕ) → RowFault → Type 0
-LineFaulty kind order fields Unended = ⊥
-LineFaulty kind order fields Count = length fields ≡ width kind → ⊥
-LineFaulty kind order fields (Value column fault) =
-    (k : ℕ) × (column ≡ k + 1) × (k < width kind) × (length fields ≡ width kind)
+-- The first fault of a line with these fields: their number, else the first field that is no value of its column. So many fields
+-- of the line stand before them.
+abbrev pub LineFaulty : FileKind → List ℕ → ℕ → List (List ℕ) → RowFault → Type 0
+LineFaulty kind order before fields Unended = ⊥
+LineFaulty kind order before fields Count = length fields ≡ width kind → ⊥
+LineFaulty kind order before fields (Value column fault) =
+    (k : ℕ) × (column ≡ before + k + 1) × (k < width kind) × (length fields ≡ width kind)
     × ((i : ℕ) → i < k → Right kind (getD order i 0) (getD fields i []))
     × CellFaulty (rangeAt kind (getD order k 0)) (getD fields k []) fault
 
@@ -64,17 +65,17 @@ abbrev pub rowIn : FileKind → List ℤ → List ℤ
 rowIn kind values = take (width kind) values
 
 -- the row that the fields spell, or the first fault
-abbrev pub ValuesRead : FileKind → List ℕ → List (List ℕ) → Result (List ℤ) RowFault → Type 0
-ValuesRead kind order fields (Ok values) = (fields ≡ cellsIn order (rowIn kind values)) × Fits kind (rowIn kind values)
-ValuesRead kind order fields (Err fault) = LineFaulty kind order fields fault
+abbrev pub ValuesRead : FileKind → List ℕ → ℕ → List (List ℕ) → Result (List ℤ) RowFault → Type 0
+ValuesRead kind order before fields (Ok values) = (fields ≡ cellsIn order (rowIn kind values)) × Fits kind (rowIn kind values)
+ValuesRead kind order before fields (Err fault) = LineFaulty kind order before fields fault
 
 -- a line that writes a row has no fault
 abbrev pub RightLinesPass : Type 0
-RightLinesPass = (kind : FileKind) (order : List ℕ) → EachOnce (width kind) order → (row : List ℤ) → Fits kind row → (fault : RowFault) → LineFaulty kind order (cellsIn order row) fault → ⊥
+RightLinesPass = (kind : FileKind) (order : List ℕ) → EachOnce (width kind) order → (before : ℕ) (row : List ℤ) → Fits kind row → (fault : RowFault) → LineFaulty kind order before (cellsIn order row) fault → ⊥
 
 -- a line has one first fault
 abbrev pub OneFirstFault : Type 0
-OneFirstFault = (kind : FileKind) (order : List ℕ) (fields : List (List ℕ)) (f g : RowFault) → LineFaulty kind order fields f → LineFaulty kind order fields g → f ≡ g
+OneFirstFault = (kind : FileKind) (order : List ℕ) (before : ℕ) (fields : List (List ℕ)) (f g : RowFault) → LineFaulty kind order before fields f → LineFaulty kind order before fields g → f ≡ g
 
 -- a line writes one row
 abbrev pub OneRow : Type 0

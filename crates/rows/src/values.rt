@@ -8,7 +8,7 @@ use reader::token::Token;
 
 // The values of a line, column by column: the number of its fields is tested first, then they are read from the left.
 pub fn read_values(reader: &mut Reader<'_>, order: &Order) -> Result<[i32; 4], RowFault>
-    ensures values { λ r. ⌜ (columnNumber (now (reader .entry)) ≡ 0 → ValuesRead (now (order .entry) .kind) (columnsIn (now (order .entry))) (fieldsLeft (now (reader .entry))) r) ⌝ }
+    ensures values { λ r. ⌜ ValuesRead (now (order .entry) .kind) (columnsIn (now (order .entry))) (columnNumber (now (reader .entry))) (fieldsLeft (now (reader .entry))) r ⌝ }
     ensures rest { λ _. ⌜ nextBytes (now (reader .exit)) ≡ nextBytes (now (reader .entry)) ⌝ }
     ensures line { λ _. ⌜ lineNumber (now (reader .exit)) ≡ lineNumber (now (reader .entry)) ⌝ }
 {

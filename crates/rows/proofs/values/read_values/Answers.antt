@@ -39,8 +39,8 @@ returns-in-Break-values c =
     let step = taken state in
     let order = c .args .order .now in
     record {
-      values = λ start. rw (p .1, p .2)
-          (cell-wrong (order .kind) (columnsIn order) _ (c .loop-k .k) _ _ _ _ _ (c .read-at .ensures) (c .in-Break-values .was tt)
+      values = rw (p .1, p .2)
+          (cell-wrong (order .kind) (columnsIn order) _ _ (c .loop-k .k) _ _ _ _ _ (c .read-at .ensures) (c .in-Break-values .was tt)
           (range-read (order .kind) _ _ _ _ (c .columns-columns .ensures) (sym (column state)) (order-once order .known (c .loop-k .k) (below state)))
           (step .is) (omega (arith, lent state .column-is, c .loop-k .inv .3)) (below state) (omega (arith, c .if-fields-left-columns .left, c .fields-left .ensures, ap length (c .columns-columns .ensures)))
           (right-before (order .kind) (columnsIn order) (fieldsLeft (c .args .reader .now)) (c .loop-k .k) (c .loop-k .values) (c .loop-k .inv .0)));
@@ -73,7 +73,7 @@ returns c =
     let all : c .loop-k .k ≡ width (order .kind) = omega (arith, c .loop-k-test .left, n) in
     let read = subst (λ k. ReadSofar (order .kind) (columnsIn order) fields k (c .loop-k .values)) all (c .loop-k .inv .0) in
     record {
-      values = λ start. (all-cells (order .kind) (columnsIn order) fields (c .loop-k .values) each read (omega (arith, c .if-fields-left-columns .left, c .fields-left .ensures, n)), all-fit (order .kind) (columnsIn order) fields (c .loop-k .values) each read (c .loop-k .inv .2));
+      values = (all-cells (order .kind) (columnsIn order) fields (c .loop-k .values) each read (omega (arith, c .if-fields-left-columns .left, c .fields-left .ensures, n)), all-fit (order .kind) (columnsIn order) fields (c .loop-k .values) each read (c .loop-k .inv .2));
       rest = c .loop-k .inv .4;
       line = c .loop-k .inv .5;
     }
