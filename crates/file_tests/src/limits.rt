@@ -28,7 +28,12 @@ fn bytes(rt: LibcRuntime) -> Result<(), Fail> {
     let heap = rt.alloc();
     let full = repeated(heap, "gap,length,hold\n", "32767,1500,6553\n", 4095)?;
     check(full.len() == 65536)?;
-    tells_after(heap, &full, "", "group,weight,gap,length\n0,26834535,32767,1500\n")?;
+    tells_after(
+        heap,
+        &full,
+        "",
+        "group,weight,gap,length\n0,26834535,32767,1500\n",
+    )?;
     tells_after(heap, &full, "1", "26,1,0,0 Program")?;
     tells_after(heap, &full, "x,y\n\n", "26,1,0,0 Program")?;
     // A long file is too long before anything else is wrong with it.

@@ -67,11 +67,20 @@ const BOTH: [(&str, &str, &str); 4] = [
     ("gap,length,hold\n100,10,0\n", "", "24,1,2,3 Value"),
     ("", "gap,length\n100,x\n", "21,1,1,0 File"),
     ("gap,length,hold\n", "gap,length\n", "1,1,0,0 File"),
-    ("lag,torque,speed,temp\n1,2,3\n", "gap,length\n100,10\n", "22,1,2,0 Row"),
+    (
+        "lag,torque,speed,temp\n1,2,3\n",
+        "gap,length\n100,10\n",
+        "22,1,2,0 Row",
+    ),
 ];
 
 // Checks what is told of these rows as a drive recording, and as drive centers.
-fn tells_of_drives(heap: Global, rows: &str, of_recording: &str, of_centers: &str) -> Result<(), Fail> {
+fn tells_of_drives(
+    heap: Global,
+    rows: &str,
+    of_recording: &str,
+    of_centers: &str,
+) -> Result<(), Fail> {
     let file = format!(heap, "lag,torque,speed,temp\n{rows}")?;
     tells(heap, &file, DRIVE_CENTERS, of_recording)?;
     tells(heap, DRIVES, &file, of_centers)

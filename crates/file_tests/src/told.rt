@@ -1,5 +1,5 @@
-use program::fault::ProgramFault;
-use program::print::FaultReportDisplay;
+use faults::program::FaultReportDisplay;
+use faults::program::ProgramFault;
 use program::print::GroupLineDisplay;
 use program::print::HeadingDisplay;
 use program::report::Report;
@@ -11,8 +11,11 @@ use value::fault::LayerDebug;
 
 // Recordings and centers with which nothing is wrong, for the tests of the other file.
 pub(crate) const TELEGRAMS: &str = "gap,length,hold\n100,10,1\n";
+
 pub(crate) const TELEGRAM_CENTERS: &str = "gap,length\n100,10\n";
+
 pub(crate) const DRIVES: &str = "lag,torque,speed,temp\n1,2,3,4\n";
+
 pub(crate) const DRIVE_CENTERS: &str = "lag,torque,speed,temp\n1,2,3,4\n";
 
 // The lines that are printed of a report, each with its end.

@@ -8,7 +8,22 @@ use std::test::*;
 
 // What spells no value.
 const NOT_VALUES: [&str; 16] = [
-    "-0", "+1", "007", "", "1000000", "-100000", " 1", "1 ", "1.0", "-", "--1", "1-", "00", "-01", "1e3", "1\r",
+    "-0",
+    "+1",
+    "007",
+    "",
+    "1000000",
+    "-100000",
+    " 1",
+    "1 ",
+    "1.0",
+    "-",
+    "--1",
+    "1-",
+    "00",
+    "-01",
+    "1e3",
+    "1\r",
 ];
 
 // Values outside 16 bits.
@@ -53,10 +68,16 @@ fn refused_by_telegrams(heap: Global, value: &str, number: u32) -> Result<(), Fa
 // Checks that the value is taken in a recording, and in the centers.
 fn taken(heap: Global, value: &str) -> Result<(), Fail> {
     let recording = format!(heap, "lag,torque,speed,temp\n{value},2,3,4\n")?;
-    let expected = format!(heap, "group,weight,lag,torque,speed,temp\n0,1,{value},2,3,4\n")?;
+    let expected = format!(
+        heap,
+        "group,weight,lag,torque,speed,temp\n0,1,{value},2,3,4\n"
+    )?;
     tells(heap, &recording, DRIVE_CENTERS, &expected)?;
     let centers = format!(heap, "gap,length\n100,10\n100,{value}\n")?;
-    let expected = format!(heap, "group,weight,gap,length\n0,1,100,10\n1,0,100,{value}\n")?;
+    let expected = format!(
+        heap,
+        "group,weight,gap,length\n0,1,100,10\n1,0,100,{value}\n"
+    )?;
     tells(heap, TELEGRAMS, &centers, &expected)
 }
 
@@ -90,6 +111,16 @@ fn ranges(rt: LibcRuntime) -> Result<(), Fail> {
         tells(heap, &recording, TELEGRAM_CENTERS, &expected)?;
     }
     // A value has the range of the name that it stands under.
-    tells(heap, "hold,gap,length\n0,100,10\n", TELEGRAM_CENTERS, "24,1,2,1 Value")?;
-    tells(heap, "hold,length,gap\n1,1501,10\n", TELEGRAM_CENTERS, "24,1,2,2 Value")
+    tells(
+        heap,
+        "hold,gap,length\n0,100,10\n",
+        TELEGRAM_CENTERS,
+        "24,1,2,1 Value",
+    )?;
+    tells(
+        heap,
+        "hold,length,gap\n1,1501,10\n",
+        TELEGRAM_CENTERS,
+        "24,1,2,2 Value",
+    )
 }

@@ -17,8 +17,8 @@ use Rattle.std.proofs.shelf.Lists.{length-append, length-map, length-take-le, n
 use Rattle.reader.specs.Fields.{Lacks, commas, fieldsOf}
 use Rattle.reader.proofs.Cuts.{no-cut, cut-unique}
 use Rattle.reader.proofs.Splits.{fields-commas}
-use Rattle.rows.specs.declared.fault.RowFault.{RowFault}
-use Rattle.rows.specs.declared.fault.RowFault.the-variants.{Unended, Count, Value}
+use Rattle.faults.specs.declared.row.RowFault.{RowFault}
+use Rattle.faults.specs.declared.row.RowFault.the-variants.{Unended, Count, Value}
 use Rattle.rows.specs.declared.kind.FileKind.{FileKind}
 use Rattle.rows.specs.declared.order.Order.{Order}
 use Rattle.rows.specs.Columns.{width, isCenters}
@@ -27,8 +27,8 @@ use Rattle.rows.proofs.Exact.{one-fault, one-order, one-row, right-passes}
 use Rattle.rows.proofs.Named.{few}
 use Rattle.rows.proofs.Plain.{cells-plain, commas-lack}
 use Rattle.rows.proofs.Spelled.{order-once}
-use Rattle.files.specs.declared.fault.FileFault.{FileFault}
-use Rattle.files.specs.declared.fault.FileFault.the-variants.{Names, Row}
+use Rattle.faults.specs.declared.file.FileFault.{FileFault}
+use Rattle.faults.specs.declared.file.FileFault.the-variants.{Names, Row}
 use Rattle.files.specs.Format.{AcceptedExactly, Ending, LineWrong, OneOutcome, Outcome, Spelled, Unnamed, WithinLimits, ended, over, wrong, named, unnamed, lineOf, linesOf, most, tooMany, whenEnded}
 use Rattle.files.specs.Reads.{FileRead, Filled, HeaderRead, NoOther, Read, RowsRead, saidBy}
 use Rattle.files.proofs.Headers.{line-first, names-split, names-whole}

@@ -22,15 +22,15 @@ use Rattle.reader.specs.declared.cursor.Reader.{Reader}
 use Rattle.reader.specs.Fields.{commas, fieldsOf}
 use Rattle.reader.specs.Steps.{LineEnds, columnNumber, fieldsLeft, nextBytes}
 use Rattle.rows.specs.declared.column.Column.{Column}
-use Rattle.rows.specs.declared.fault.RowFault.{RowFault}
-use Rattle.rows.specs.declared.fault.RowFault.the-variants.{Unended, Count, Value}
+use Rattle.faults.specs.declared.row.RowFault.{RowFault}
+use Rattle.faults.specs.declared.row.RowFault.the-variants.{Unended, Count, Value}
 use Rattle.rows.specs.declared.kind.FileKind.{FileKind}
 use Rattle.rows.specs.declared.name.Name.the-variants.{Gap}
 use Rattle.rows.specs.Columns.{columnsOf, width, rangeAt, full, isCenters}
 use Rattle.rows.specs.Lines.{Fits, LineFaulty, ValuesRead, rowIn, cellsIn}
 use Rattle.rows.proofs.Named.{few}
-use Rattle.files.specs.declared.fault.FileFault.{FileFault}
-use Rattle.files.specs.declared.fault.FileFault.the-variants.{Row}
+use Rattle.faults.specs.declared.file.FileFault.{FileFault}
+use Rattle.faults.specs.declared.file.FileFault.the-variants.{Row}
 use Rattle.files.specs.Format.{Ending, LineWrong, over, wrong, lineOf, linesOf, most}
 use Rattle.files.specs.Reads.{Filled, LineReadAt, RoomLeft, RowsRead}
 use Rattle.files.specs.Rows.{nearestsFrom, nearests}

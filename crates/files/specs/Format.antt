@@ -11,13 +11,13 @@ use Rattle.std.specs.shelf.Lists.{All}
 use Rattle.std.specs.declared.option.Option.{Option}
 use Rattle.std.specs.declared.option.Option.the-variants.{Some, None}
 use Rattle.reader.specs.Fields.{Lacks, commas, fieldsOf}
-use Rattle.rows.specs.declared.fault.RowFault.{RowFault}
-use Rattle.rows.specs.declared.fault.RowFault.the-variants.{Unended, Count, Value}
+use Rattle.faults.specs.declared.row.RowFault.{RowFault}
+use Rattle.faults.specs.declared.row.RowFault.the-variants.{Unended, Count, Value}
 use Rattle.rows.specs.declared.kind.FileKind.{FileKind}
 use Rattle.rows.specs.Columns.{isCenters, width}
 use Rattle.rows.specs.Lines.{EachOnce, Fits, LineFaulty, namesIn, cellsIn}
-use Rattle.files.specs.declared.fault.FileFault.{FileFault}
-use Rattle.files.specs.declared.fault.FileFault.the-variants.{Names, Row, TooManyRows, TooManyCenters, NoRecord, NoCenter}
+use Rattle.faults.specs.declared.file.FileFault.{FileFault}
+use Rattle.faults.specs.declared.file.FileFault.the-variants.{Names, Row, TooManyRows, TooManyCenters, NoRecord, NoCenter}
 
 -- a line: its fields with commas between them, and the line end
 abbrev pub lineOf : List (List ℕ) → List ℕ

@@ -1,4 +1,3 @@
-pub mod Faults
 pub mod Format
 pub mod Reads
 pub mod Rows

@@ -9,13 +9,13 @@ use Rattle.std.specs.declared.option.Option.{Option}
 use Rattle.std.specs.declared.option.Option.the-variants.{Some, None}
 use Rattle.std.specs.declared.result.Result.{Result}
 use Rattle.std.specs.declared.result.Result.the-variants.{Ok, Err}
-use Rattle.rows.specs.declared.fault.RowFault.{RowFault}
+use Rattle.faults.specs.declared.row.RowFault.{RowFault}
 use Rattle.rows.specs.declared.kind.FileKind.{FileKind}
 use Rattle.rows.specs.declared.order.Order.{Order}
 use Rattle.rows.specs.Columns.{width}
 use Rattle.rows.specs.Lines.{Fits, cellsIn, columnsIn, namesIn}
-use Rattle.files.specs.declared.fault.FileFault.{FileFault}
-use Rattle.files.specs.declared.fault.FileFault.the-variants.{Row}
+use Rattle.faults.specs.declared.file.FileFault.{FileFault}
+use Rattle.faults.specs.declared.file.FileFault.the-variants.{Row}
 use Rattle.files.specs.Format.{Ending, LineWrong, Outcome, Unnamed, lineOf, linesOf, most, tooMany}
 
 -- the bytes begin with the names in this order, before those that are left; or they do not begin with the names

@@ -16,8 +16,8 @@ use Rattle.rows.specs.declared.kind.FileKind.{FileKind}
 use Rattle.rows.specs.Columns.{isCenters}
 use Rattle.files.specs.Format.{Outcome, most}
 use Rattle.files.proofs.Outcomes.{accepted}
-use Rattle.program.specs.declared.fault.ProgramFault.{ProgramFault}
-use Rattle.program.specs.declared.fault.ProgramFault.the-variants.{CannotOpen, TooLong, File}
+use Rattle.faults.specs.declared.program.ProgramFault.{ProgramFault}
+use Rattle.faults.specs.declared.program.ProgramFault.the-variants.{CannotOpen, TooLong, File}
 use Rattle.program.specs.Inputs.{Accepted, Loaded, Refused, faulty, unusable}
 
 module _ {R : Type 0} (file : ℕ) (kind : FileKind) (fields : R → List ℤ) (input : Option (List ℕ)) (old new : List R) (four : length old ≡ 4096) where

@@ -21,7 +21,7 @@ use Rattle.grouping.specs.declared.group.Group.{Group}
 use Rattle.grouping.specs.Distance.{Place}
 use Rattle.grouping.specs.Groups.{Tallied, places}
 use Rattle.grouping.specs.Rounds.{Rounds}
-use Rattle.program.specs.declared.fault.ProgramFault.{ProgramFault}
+use Rattle.faults.specs.declared.program.ProgramFault.{ProgramFault}
 use Rattle.program.specs.declared.report.Report.{Report}
 use Rattle.program.specs.Inputs.{Accepted, Refused}
 

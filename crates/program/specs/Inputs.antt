@@ -11,11 +11,11 @@ use Rattle.std.specs.declared.option.Option.the-variants.{Some, None}
 use Rattle.std.specs.declared.result.Result.{Result}
 use Rattle.std.specs.declared.result.Result.the-variants.{Ok, Err}
 use Rattle.rows.specs.declared.kind.FileKind.{FileKind}
-use Rattle.files.specs.declared.fault.FileFault.{FileFault}
+use Rattle.faults.specs.declared.file.FileFault.{FileFault}
 use Rattle.files.specs.Format.{Outcome, Spelled, WithinLimits}
 use Rattle.files.specs.Reads.{FileRead}
-use Rattle.program.specs.declared.fault.ProgramFault.{ProgramFault}
-use Rattle.program.specs.declared.fault.ProgramFault.the-variants.{CannotOpen, TooLong, File}
+use Rattle.faults.specs.declared.program.ProgramFault.{ProgramFault}
+use Rattle.faults.specs.declared.program.ProgramFault.the-variants.{CannotOpen, TooLong, File}
 
 -- the bytes of a file; None where it cannot be opened
 abbrev pub bytesOf : Option (RefT (List ℕ)) → Option (List ℕ)

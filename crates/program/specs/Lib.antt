@@ -1,4 +1,3 @@
 pub mod Answers
-pub mod Faults
 pub mod Inputs
 pub mod Prints

@@ -1,6 +1,6 @@
--- What is printed of a report and of a fault: values with commas between them.
+-- What is printed of a report: values with commas between them.
 use mathlib.Core.Path.{_≡_}
-use mathlib.Core.List.{List, [], _∷_, map}
+use mathlib.Core.List.{List, _∷_, map}
 use Prim.Native.Nat.{ℕ}
 use lib.Chars.{codes}
 use lib.ListN.{getD}
@@ -11,7 +11,6 @@ use Rattle.rows.specs.declared.kind.FileKind.{FileKind}
 use Rattle.rows.specs.Columns.{columnsOf}
 use Rattle.rows.specs.Names.{textOf}
 use Rattle.grouping.specs.Groups.{groupAt, placeOf}
-use Rattle.program.specs.declared.fault.FaultReport.{FaultReport}
 use Rattle.program.specs.declared.print.GroupLine.{GroupLine}
 use Rattle.program.specs.declared.report.Report.{Report}
 use Rattle.program.specs.Answers.{axesOf, centersOf}
@@ -23,10 +22,6 @@ headingText kind = commas (codes "group" ∷ codes "weight" ∷ map (λ c. textO
 -- number, weight and place of a group
 abbrev pub lineText : FileKind → ℕ → ℕ → Position → List ℕ
 lineText kind number weight center = commas (decimal number ∷ decimal weight ∷ map signed (placeOf (axesOf kind) center))
-
--- number, file, line and column
-abbrev pub faultText : FaultReport → List ℕ
-faultText r = commas (decimal (r .number) ∷ decimal (r .file) ∷ decimal (r .line) ∷ decimal (r .column) ∷ [])
 
 -- the line is that of group k of the report
 pub record LineOf (report : Report) (k : ℕ) (line : GroupLine) : Type 0 where

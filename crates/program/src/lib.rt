@@ -1,5 +1,4 @@
 // The program as a function: from the bytes of the two files to the report of the groups, or to the first fault.
-pub mod fault;
 mod load;
 pub mod print;
 pub mod report;

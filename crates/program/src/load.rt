@@ -1,6 +1,6 @@
 ghost use Rattle.program.specs.Inputs.{Loaded, bytesOf, Admitted};
-use crate::fault::ProgramFault;
-use crate::fault::ProgramFromFile;
+use faults::program::ProgramFault;
+use faults::program::ProgramFromFile;
 use files::row::Row;
 use files::table::read_table;
 use value::placed::place_at;

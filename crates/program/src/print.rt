@@ -2,8 +2,7 @@ ghost use mathlib.Core.Path.{_≡_};
 ghost use Prim.Native.Nat.{_<_, _≤_};
 ghost use Rattle.std.specs.Options.{Cases as BySome};
 ghost use Rattle.std.specs.declared.option.Option.the-variants.{Some};
-ghost use Rattle.program.specs.Prints.{LineOf, faultText, headingText, lineText};
-use crate::fault::FaultReport;
+ghost use Rattle.program.specs.Prints.{LineOf, headingText, lineText};
 use crate::report::Report;
 use points::point::Point;
 use points::position::Position;
@@ -93,17 +92,5 @@ pub impl fmt::Display for GroupLine as GroupLineDisplay {
                 "{number},{weight},{a},{b}"
             ),
         }
-    }
-}
-
-pub impl fmt::Display for FaultReport as FaultReportDisplay {
-    ghost shown = { λ r. Some (faultText r) };
-
-    fn fmt<W: fmt::Write>(&self, f: &mut fmt::Formatter<W>) -> fmt::Result {
-        let number = self.number;
-        let file = self.file;
-        let line = self.line;
-        let column = self.column;
-        write!(f, "{number},{file},{line},{column}")
     }
 }

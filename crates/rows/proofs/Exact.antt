@@ -21,7 +21,7 @@ use Rattle.value.specs.Ranges.{Within}
 use Rattle.value.specs.Spelling.{Spells}
 use Rattle.value.proofs.Laws.{unique, covers}
 use Rattle.rows.specs.declared.column.Column.{Column}
-use Rattle.rows.specs.declared.fault.RowFault.the-variants.{Unended, Count, Value}
+use Rattle.faults.specs.declared.row.RowFault.the-variants.{Unended, Count, Value}
 use Rattle.rows.specs.declared.kind.FileKind.{FileKind}
 use Rattle.rows.specs.declared.kind.FileKind.the-variants.{DriveRecords, TelegramRecords, DriveCenters, TelegramCenters}
 use Rattle.rows.specs.declared.name.Name.the-variants.{Gap}

@@ -19,8 +19,8 @@ use Rattle.value.specs.declared.range.ValueRange.{ValueRange}
 use Rattle.value.specs.Ranges.{Within}
 use Rattle.value.specs.Spelling.{Spells}
 use Rattle.rows.specs.declared.column.Column.{Column}
-use Rattle.rows.specs.declared.fault.RowFault.{RowFault}
-use Rattle.rows.specs.declared.fault.RowFault.the-variants.{Unended, Count, Value}
+use Rattle.faults.specs.declared.row.RowFault.{RowFault}
+use Rattle.faults.specs.declared.row.RowFault.the-variants.{Unended, Count, Value}
 use Rattle.rows.specs.declared.kind.FileKind.{FileKind}
 use Rattle.rows.specs.declared.name.Name.the-variants.{Gap}
 use Rattle.rows.specs.Cells.{CellFaulty, CellReadAt}

@@ -10,8 +10,8 @@ use Rattle.value.specs.declared.fault.ValueFault.the-variants.{NotAValue, OutOf
 use Rattle.value.specs.declared.range.ValueRange.{ValueRange}
 use Rattle.value.specs.Ranges.{Within}
 use Rattle.value.specs.Spelling.{Spells}
-use Rattle.rows.specs.declared.fault.RowFault.{RowFault}
-use Rattle.rows.specs.declared.fault.RowFault.the-variants.{Unended, Count, Value}
+use Rattle.faults.specs.declared.row.RowFault.{RowFault}
+use Rattle.faults.specs.declared.row.RowFault.the-variants.{Unended, Count, Value}
 
 -- why a field is no value of a column with this range
 abbrev pub CellFaulty : ValueRange → List ℕ → ValueFault → Type 0

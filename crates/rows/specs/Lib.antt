@@ -1,5 +1,4 @@
 pub mod Cells
 pub mod Columns
-pub mod Faults
 pub mod Lines
 pub mod Names

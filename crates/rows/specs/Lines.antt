@@ -11,8 +11,8 @@ use Rattle.std.specs.declared.result.Result.{Result}
 use Rattle.std.specs.declared.result.Result.the-variants.{Ok, Err}
 use Rattle.value.specs.Ranges.{Within}
 use Rattle.value.specs.Spelling.{Spells}
-use Rattle.rows.specs.declared.fault.RowFault.{RowFault}
-use Rattle.rows.specs.declared.fault.RowFault.the-variants.{Unended, Count, Value}
+use Rattle.faults.specs.declared.row.RowFault.{RowFault}
+use Rattle.faults.specs.declared.row.RowFault.the-variants.{Unended, Count, Value}
 use Rattle.rows.specs.declared.kind.FileKind.{FileKind}
 use Rattle.rows.specs.declared.order.Order.{Order}
 use Rattle.rows.specs.Cells.{CellFaulty}

@@ -1,7 +1,7 @@
 ghost use Rattle.rows.specs.Cells.{CellRead, CellReadAt};
-use crate::fault::RowFault;
-use crate::fault::RowFromValue;
 use crate::name::Name;
+use faults::row::RowFault;
+use faults::row::RowFromValue;
 use value::fault::ValueFault;
 use value::placed::place_at;
 use value::range::ValueRange;

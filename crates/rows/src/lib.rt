@@ -1,6 +1,5 @@
 // The lines of a file: its columns, the line of names and the lines of values.
 pub mod column;
-pub mod fault;
 pub mod kind;
 pub mod laws;
 pub mod name;

@@ -1,8 +1,8 @@
 ghost use mathlib.Core.Path.{_≡_};
 ghost use Rattle.reader.specs.Steps.{columnNumber, fieldsLeft, nextBytes, lineNumber};
 ghost use Rattle.rows.specs.Lines.{ValuesRead, columnsIn};
-use crate::fault::RowFault;
 use crate::order::Order;
+use faults::row::RowFault;
 use reader::cursor::Reader;
 use reader::token::Token;
 

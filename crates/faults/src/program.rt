@@ -1,6 +1,8 @@
 ghost use mathlib.Core.Path.{_≡_};
-ghost use Rattle.program.specs.Faults.{fileAt, reportOf};
-use files::fault::FileFault;
+ghost use Rattle.std.specs.declared.option.Option.the-variants.{Some};
+ghost use Rattle.faults.specs.ProgramFaults.{faultText, fileAt, reportOf};
+use crate::file::FileFault;
+use std::fmt;
 use value::fault::Layer;
 use value::placed::Placed;
 
@@ -64,5 +66,17 @@ impl ProgramFault {
                 column: fault.column(),
             },
         }
+    }
+}
+
+pub impl fmt::Display for FaultReport as FaultReportDisplay {
+    ghost shown = { λ r. Some (faultText r) };
+
+    fn fmt<W: fmt::Write>(&self, f: &mut fmt::Formatter<W>) -> fmt::Result {
+        let number = self.number;
+        let file = self.file;
+        let line = self.line;
+        let column = self.column;
+        write!(f, "{number},{file},{line},{column}")
     }
 }

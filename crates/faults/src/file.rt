@@ -1,6 +1,6 @@
 ghost use mathlib.Core.Path.{_≡_};
-ghost use Rattle.files.specs.Faults.{columnOf, layerOf, lineOf, numberOf, rowAt};
-use rows::fault::RowFault;
+ghost use Rattle.faults.specs.FileFaults.{columnOf, layerOf, lineOf, numberOf, rowAt};
+use crate::row::RowFault;
 use value::fault::Layer;
 use value::placed::Placed;
 

@@ -3,10 +3,10 @@ use Prim.Native.Nat.{ℕ}
 use Rattle.value.specs.declared.fault.Layer.{Layer}
 use Rattle.value.specs.declared.fault.Layer.the-variants.{File}
 use Rattle.value.specs.declared.placed.Placed.{Placed}
-use Rattle.rows.specs.declared.fault.RowFault.{RowFault}
-use Rattle.rows.specs.Faults as row
-use Rattle.files.specs.declared.fault.FileFault.{FileFault}
-use Rattle.files.specs.declared.fault.FileFault.the-variants.{Names, Row, TooManyRows, TooManyCenters, NoRecord, NoCenter}
+use Rattle.faults.specs.declared.row.RowFault.{RowFault}
+use Rattle.faults.specs.RowFaults as row
+use Rattle.faults.specs.declared.file.FileFault.{FileFault}
+use Rattle.faults.specs.declared.file.FileFault.the-variants.{Names, Row, TooManyRows, TooManyCenters, NoRecord, NoCenter}
 
 abbrev pub numberOf : FileFault → ℕ
 numberOf Names = 21

@@ -1,5 +1,5 @@
 ghost use mathlib.Core.Path.{_≡_};
-ghost use Rattle.rows.specs.Faults.{numberOf, layerOf, columnOf, valueAt};
+ghost use Rattle.faults.specs.RowFaults.{numberOf, layerOf, columnOf, valueAt};
 use value::fault::Layer;
 use value::fault::ValueFault;
 use value::placed::Placed;

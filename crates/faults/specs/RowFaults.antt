@@ -5,8 +5,8 @@ use Rattle.value.specs.declared.fault.Layer.the-variants as layer
 use Rattle.value.specs.declared.fault.ValueFault.{ValueFault}
 use Rattle.value.specs.declared.placed.Placed.{Placed}
 use Rattle.value.specs.Faults as value
-use Rattle.rows.specs.declared.fault.RowFault.{RowFault}
-use Rattle.rows.specs.declared.fault.RowFault.the-variants.{Unended, Count, Value}
+use Rattle.faults.specs.declared.row.RowFault.{RowFault}
+use Rattle.faults.specs.declared.row.RowFault.the-variants.{Unended, Count, Value}
 
 abbrev pub numberOf : RowFault → ℕ
 numberOf Unended = 25

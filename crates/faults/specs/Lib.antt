@@ -1,0 +1,3 @@
+pub mod FileFaults
+pub mod ProgramFaults
+pub mod RowFaults
