@@ -14,7 +14,7 @@ use Rattle.std.proofs.shelf.Lists.{getD-set-same, getD-set-other, length-set}
 use Rattle.std.proofs.shelf.Signed.{toZ-ofZ, toZ-pos}
 use Rattle.std.proofs.shelf.Tests.{cases-eq}
 use Rattle.grouping.specs.Distance.{Place, number}
-use Rattle.grouping.proofs.Laws.{lin, *ℤ-rises}
+use Rattle.numbers.proofs.Ring.{lin, *ℤ-rises}
 
 -- ---- hold times number
 

@@ -31,11 +31,11 @@ tallied-none cs gs e c =
 pub room : (es : List Entry) (cs : List Place) (gs : List Group) (k : ℕ) → Modest es → length es ≤ 4095 → k < length cs → Tallied es cs gs → Room (groupAt gs k)
 room es cs gs k m few l t =
     let w = t .weighs k l in
-    let high = weight-high cs k es m in
+    let high = weight-high cs k es (m .held) in
     record {
       weight = omega (arith, ints);
-      low = λ axis h. omega (arith, ints, t .sums k axis l h, sum-low cs k es axis m);
-      high = λ axis h. omega (arith, ints, t .sums k axis l h, sum-high cs k es axis m);
+      low = λ axis h. omega (arith, ints, t .sums k axis l h, sum-low cs k es axis (m .ranged));
+      high = λ axis h. omega (arith, ints, t .sums k axis l h, sum-high cs k es axis (m .ranged));
     }
 
 -- the entry e joins the group of the center that it chooses

@@ -4,6 +4,7 @@ ghost use mathlib.Core.Logic.{_⊎_};
 ghost use Prim.Native.Nat.{_≤_};
 ghost use Rattle.points.specs.Entries.{recorded};
 ghost use Rattle.grouping.specs.Groups.{places, Tallied, Flat};
+ghost use Rattle.grouping.specs.Moving.{settled-centers};
 ghost use Rattle.grouping.specs.Rounds.{Rounds};
 use crate::round::round;
 use crate::tally::tally;
@@ -48,6 +49,7 @@ pub fn group<R: Record>(recording: &Recording<R>, groups: &mut [Group]) -> Settl
     ensures rounds { λ s. ⌜ Rounds (recorded R·Point R·Record (now (recording .entry))) (places (R·Point .axes) (now (groups .entry))) (s .rounds) (s .settled) (places (R·Point .axes) (now (groups .exit))) ⌝ }
     ensures most { λ s. ⌜ s .rounds ≤ 100 ⌝ }
     ensures ends { λ s. ⌜ (s .settled ≡ true) ⊎ (s .rounds ≡ 100) ⌝ }
+    ensures centers { λ _. ⌜ places (R·Point .axes) (now (groups .exit)) ≡ settled-centers (recorded R·Point R·Record (now (recording .entry))) 100 (places (R·Point .axes) (now (groups .entry))) ⌝ }
     ensures flat { λ _. ⌜ Flat (R·Point .axes) (now (groups .exit)) ⌝ }
     ensures tallied { λ _. ⌜ Tallied (recorded R·Point R·Record (now (recording .entry))) (places (R·Point .axes) (now (groups .exit))) (now (groups .exit)) ⌝ }
 {

@@ -5,7 +5,7 @@ use crate::told::tells;
 use std::test::*;
 
 // Recordings whose first line is not the names of a kind.
-const RECORDINGS: [&str; 20] = [
+const WRONG_RECORDINGS: [&str; 20] = [
     // A name is missing.
     "gap,length\n100,10\n",
     "length,hold\n10,1\n",
@@ -34,7 +34,7 @@ const RECORDINGS: [&str; 20] = [
 ];
 
 // Center files whose first line is not the names of telegram centers.
-const CENTERS: [&str; 14] = [
+const WRONG_CENTERS: [&str; 14] = [
     "gap\n100\n",
     "gap,gap\n100,100\n",
     "gap,length,gap\n100,10,100\n",
@@ -53,7 +53,7 @@ const CENTERS: [&str; 14] = [
 ];
 
 // The same for drive centers.
-const DRIVE_CENTERS: [&str; 4] = [
+const WRONG_DRIVE_CENTERS: [&str; 4] = [
     "gap,length\n100,10\n",
     "lag,torque,speed\n1,2,3\n",
     "lag,torque,speed,speed\n1,2,3,3\n",
@@ -62,13 +62,13 @@ const DRIVE_CENTERS: [&str; 4] = [
 
 #[test]
 fn names(rt: LibcRuntime) -> Result<(), Fail> {
-    for recording in RECORDINGS {
+    for recording in WRONG_RECORDINGS {
         tells(rt.alloc(), recording, TELEGRAM_CENTERS, "21,1,1,0 File")?;
     }
-    for centers in CENTERS {
+    for centers in WRONG_CENTERS {
         tells(rt.alloc(), TELEGRAMS, centers, "21,2,1,0 File")?;
     }
-    for centers in DRIVE_CENTERS {
+    for centers in WRONG_DRIVE_CENTERS {
         tells(rt.alloc(), DRIVES, centers, "21,2,1,0 File")?;
     }
     Ok(())

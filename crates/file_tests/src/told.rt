@@ -58,6 +58,6 @@ pub(crate) fn tells(
 ) -> Result<(), Fail> {
     let text = told(heap, Some(recording.as_bytes()), Some(centers.as_bytes()))?;
     check_eq(text.as_str(), expected)
-        .note(recording)
-        .note(centers)
+        .note(format_args!("recording {recording:?}"))
+        .note(format_args!("centers {centers:?}"))
 }

@@ -127,8 +127,8 @@ module _ {axes : ℕ} {gs hs : List Group} {n : ℕ} {es : List Entry} (few : ax
       let go = sent-at a k (under k l) .goes axis h .goes (λ z. some (sym w ∙ ap pos z)) in
       let r : Rounded (sum es (places axes gs) k axis) (pos (g .weight)) (go .0) = subst (λ x. Rounded x (pos (g .weight)) (go .0)) s (go .1 .0) in
       let p : 0 < g .weight = elim (cases-lt 0 (g .weight)) [ inl q ↦ q | inr q ↦ absurd (some (sym w ∙ ap pos (omega arith))) ] in
-      let low = mean-low _ (g .weight) (go .0) p r (subst (λ x. negℤ (pos 32768 *ℤ x) ≤ℤ sum es (places axes gs) k axis) (sym w) (sum-low (places axes gs) k es axis m)) in
-      let high = mean-high _ (g .weight) (go .0) p r (subst (λ x. sum es (places axes gs) k axis ≤ℤ (pos 32767 *ℤ x)) (sym w) (sum-high (places axes gs) k es axis m)) in
+      let low = mean-low _ (g .weight) (go .0) p r (subst (λ x. negℤ (pos 32768 *ℤ x) ≤ℤ sum es (places axes gs) k axis) (sym w) (sum-low (places axes gs) k es axis (m .ranged))) in
+      let high = mean-high _ (g .weight) (go .0) p r (subst (λ x. sum es (places axes gs) k axis ≤ℤ (pos 32767 *ℤ x)) (sym w) (sum-high (places axes gs) k es axis (m .ranged))) in
       let same : told (go .0) ≡ go .0 = omega (arith, ints, clamps) in
       let at : number (center (places axes hs) k) axis ≡ go .0 = ap (λ p. number p axis) (new k l) ∙ number-of axes (groupAt hs k .center) axis h ∙ go .1 .1 ∙ same in
       subst (λ x. Rounded (sum es (places axes gs) k axis) x (number (center (places axes hs) k) axis)) w (subst (Rounded (sum es (places axes gs) k axis) (pos (g .weight))) (sym at) r)

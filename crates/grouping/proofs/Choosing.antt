@@ -15,7 +15,7 @@ use Rattle.std.proofs.shelf.Signed.{by-ltZ, toZ-ofZ}
 use Rattle.std.proofs.shelf.Tests.{cases-eq}
 use Rattle.grouping.specs.Distance.{Place, dist}
 use Rattle.grouping.specs.Choice.{center, Beats, Chosen, choose}
-use Rattle.grouping.proofs.Laws.{lin}
+use Rattle.numbers.proofs.Ring.{lin}
 
 -- one more center, ahead of the others
 ahead : (c : Place) (cs : List Place) (p : Place) (j : ℕ) (b : Bool) → ltZ (dist p (center cs j)) (dist p c) ≡ b → Chosen cs p j → Chosen (c ∷ cs) p (cond b (suc j) 0)
@@ -54,6 +54,13 @@ chosen-is cs p k c = elim (cases-eq k (choose cs p)) [ inl e ↦ e | inr n ↦ a
         let a = c .beats (choose cs p) (chosen cs p some .one-of) (λ e. n (sym e)) in
         let b = chosen cs p some .beats k (c .one-of) n in
         omega (arith, lin)
+
+-- the chosen center is no farther than any other
+pub nearest-of : (cs : List Place) (p : Place) (j : ℕ) → j < length cs → dist p (center cs (choose cs p)) ≤ℤ dist p (center cs j)
+nearest-of cs p j l = elim (cases-eq j (choose cs p)) [
+  | inl e ↦ rw e (omega (arith, lin))
+  | inr n ↦ let b = chosen cs p (omega arith) .beats j l n in omega (arith, lin)
+]
 
 -- ---- a search for the nearest of the first i centers
 

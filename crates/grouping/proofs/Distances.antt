@@ -12,7 +12,7 @@ use borrow.Author.Differences.{ints, fits-in}
 use mir.Syntax.{w16, w64}
 use mir.Val.{SFits}
 use Rattle.grouping.specs.Distance.{Place, dist, number}
-use Rattle.grouping.proofs.Laws.{lin, square-low, square-high}
+use Rattle.numbers.proofs.Ring.{lin, square-low, square-high}
 
 gap : (x y : ℤ) → SFits w16 x → SFits w16 y → natAbs (x -ℤ y) ≤ 65535
 gap x y f h = omega (arith, ints)
@@ -22,6 +22,11 @@ apart-high x y f h = square-high (x -ℤ y) 65535 (gap x y f h)
 
 pub apart-fits : (x y : ℤ) → SFits w16 x → SFits w16 y → SFits w64 ((x -ℤ y) *ℤ (x -ℤ y))
 apart-fits x y f h = omega (arith, lin, fits-in, square-low (x -ℤ y), apart-high x y f h)
+
+pub dist-natural : (xs ys : Place) → pos 0 ≤ℤ dist xs ys
+dist-natural [] ys = omega (arith, lin)
+dist-natural (x ∷ xs) [] = omega (arith, lin)
+dist-natural (x ∷ xs) (y ∷ ys) = omega (arith, lin, square-low (x -ℤ y), dist-natural xs ys)
 
 dist-suc : (xs ys : Place) (i : ℕ) → i < length xs → i < length ys →
     dist (take (suc i) xs) (take (suc i) ys) ≡ dist (take i xs) (take i ys) +ℤ (number xs i -ℤ number ys i) *ℤ (number xs i -ℤ number ys i)

@@ -1,9 +1,16 @@
 pub mod Advancing
+pub mod Bounds
+pub mod Boxes
 pub mod Chains
 pub mod Choosing
+pub mod Descents
 pub mod Distances
+pub mod Endings
+pub mod Examples
+pub mod Expansions
 pub mod Grouped
-pub mod Laws
 pub mod Means
 pub mod Moves
+pub mod Outcomes
 pub mod Totaled
+pub mod Totals

@@ -1,18 +1,20 @@
 -- Rounded means.
-use Prim.Native.Nat.{ℕ, _+_, _*_, _/_, _%_, _^_, _<_, _≤_}
+use Prim.Native.Nat.{ℕ, _*_, _/_, _%_, _^_, _<_, _≤_}
 use native.Mathlib.Omega.{arith}
 use native.Mathlib.Nat.{div-add-mod, div-le-self, mod-lt, mul-suc, mul-le-mul-right}
-use mathlib.Core.Path.{_≡_, sym, ap, ap₂, subst, _∙_}
-use mathlib.Core.Bool.{true, false}
+use mathlib.Core.Path.{_≡_, refl, sym, ap, ap₂, subst, _∙_}
+use mathlib.Core.Bool.{Bool, true, false, cond}
+use mathlib.Core.List.{[], _∷_}
 use borrow.Author.Differences.{ints}
-use lib.IntN.{ℤ, pos, negsuc, negℤ, _+ℤ_, _*ℤ_}
+use lib.IntN.{ℤ, pos, negsuc, negℤ, _+ℤ_, _-ℤ_, _*ℤ_}
 use lib.Signed.{_≤ℤ_, _<ℤ_, leZ}
 use mir.Syntax.{w64}
 use mir.Val.{SFits, toZ, ofZ}
 use Rattle.std.proofs.shelf.Signed.{by-ltZ, toZ-ofZ, toZ-pos}
 use Rattle.std.specs.Numbers.{divEuclid, remEuclid}
-use Rattle.grouping.specs.Rounding.{Rounded}
-use Rattle.grouping.proofs.Laws.{lin, add-*ℤ, *ℤ-add, *ℤ-rises}
+use Rattle.grouping.specs.Rounding.{Rounded, rounded, axis-cost}
+use Rattle.numbers.proofs.Quote.{solve, quotes}
+use Rattle.numbers.proofs.Ring.{lin, square-low, *ℤ-natural, *ℤ-rises}
 
 -- quotient and remainder
 parts : (s : ℤ) (w : ℕ) → 0 < w → pos w *ℤ divEuclid s (pos w) +ℤ remEuclid s (pos w) ≡ s
@@ -28,7 +30,7 @@ rest-high (pos a) w h = omega (arith, lin, mod-lt a h)
 rest-high (negsuc a) w h = omega (arith, lin)
 
 twice : (w : ℕ) (m : ℤ) → pos 2 *ℤ pos w *ℤ m ≡ pos w *ℤ m +ℤ pos w *ℤ m
-twice w m = let e : pos 2 *ℤ pos w ≡ pos w +ℤ pos w = omega (arith, lin) in ap (λ z. z *ℤ m) e ∙ add-*ℤ (pos w) (pos w) m
+twice w m = solve (pos w ∷ m ∷ []) (search quotes depth 30 fits 20000) tt
 
 double : (s : ℤ) → pos 2 *ℤ s ≡ s +ℤ s
 double s = omega (arith, ints)
@@ -47,22 +49,62 @@ rounds-up s w h half =
     let q = divEuclid s (pos w) in
     let p = parts s w h in
     let l = rest-high s w h in
-    let t = twice w (q +ℤ pos 1) in
-    let u = *ℤ-add (pos w) q (pos 1) in
-    let one : pos w *ℤ pos 1 ≡ pos w = omega (arith, ints) in
+    let t : pos 2 *ℤ pos w *ℤ (q +ℤ pos 1) ≡ pos w *ℤ q +ℤ pos w *ℤ q +ℤ (pos w +ℤ pos w) = solve (pos w ∷ q ∷ []) (search quotes depth 30 fits 20000) tt in
     let d = double s in
     record { low = omega (arith, lin); high = omega (arith, lin) }
 
 -- there is one rounded mean
-not-above : (s : ℤ) (w : ℕ) (m n : ℤ) → Rounded s (pos w) m → Rounded s (pos w) n → m <ℤ n → ⊥
-not-above s w m n a b h =
-    let rise = *ℤ-rises (pos 2 *ℤ pos w) (m +ℤ pos 1) n (omega (arith, ints)) (omega (arith, lin)) in
-    let more = *ℤ-add (pos 2 *ℤ pos w) m (pos 1) in
-    let one : (pos 2 *ℤ pos w) *ℤ pos 1 ≡ pos w +ℤ pos w = omega (arith, ints) in
+pub rounded-is : (s w : ℤ) → pos 0 <ℤ w → Rounded s w (rounded s w)
+rounded-is s (negsuc w) h = absurd (omega (arith, lin))
+rounded-is s (pos w) h = by (leZ (remEuclid s (pos w) +ℤ remEuclid s (pos w)) (pos w)) refl
+  where
+    by : (b : Bool) → leZ (remEuclid s (pos w) +ℤ remEuclid s (pos w)) (pos w) ≡ b → Rounded s (pos w) (cond b (divEuclid s (pos w)) (divEuclid s (pos w) +ℤ pos 1))
+    by true e = rounds-down s w (omega (arith, lin)) (omega (arith, ints))
+    by false e = rounds-up s w (omega (arith, lin)) (omega (arith, ints))
+
+not-above : (s w m n : ℤ) → pos 0 <ℤ w → Rounded s w m → Rounded s w n → m <ℤ n → ⊥
+not-above s w m n h a b l =
+    let p = *ℤ-natural w (n -ℤ m -ℤ pos 1) (omega (arith, lin)) (omega (arith, lin)) in
+    let e : pos 2 *ℤ w *ℤ n ≡ pos 2 *ℤ w *ℤ m +ℤ (w +ℤ w) +ℤ (w *ℤ (n -ℤ m -ℤ pos 1) +ℤ w *ℤ (n -ℤ m -ℤ pos 1)) = solve (w ∷ m ∷ n ∷ []) (search quotes depth 30 fits 20000) tt in
     omega (arith, lin, a .low, b .high)
 
-pub one-mean : (s : ℤ) (w : ℕ) (m n : ℤ) → Rounded s (pos w) m → Rounded s (pos w) n → m ≡ n
-one-mean s w m n a b = by-ltZ m n (λ h. absurd (not-above s w m n a b h)) (λ h. by-ltZ n m (λ k. absurd (not-above s w n m b a k)) (λ k. omega (arith, lin)))
+pub one-mean : (s w m n : ℤ) → pos 0 <ℤ w → Rounded s w m → Rounded s w n → m ≡ n
+one-mean s w m n h a b = by-ltZ m n (λ l. absurd (not-above s w m n h a b l)) (λ l. by-ltZ n m (λ k. absurd (not-above s w n m h b a k)) (λ k. omega (arith, lin)))
+
+-- it costs its axis least, and the lower of two that do
+module _ (s w m : ℤ) (positive : pos 0 <ℤ w) (r : Rounded s w m) where
+  later : (x : ℤ) → m <ℤ x → (axis-cost s w m +ℤ (x -ℤ m -ℤ pos 1)) ≤ℤ axis-cost s w x
+  later x after =
+      let k = x -ℤ m -ℤ pos 1 in
+      let d = pos 2 *ℤ w *ℤ m +ℤ w -ℤ pos 2 *ℤ s in
+      let p1 = *ℤ-natural (k +ℤ pos 1) d (omega (arith, lin)) (omega (arith, lin, r .low)) in
+      let p2 = *ℤ-natural w (k *ℤ k) (omega (arith, lin)) (square-low k) in
+      let p3 = *ℤ-natural (w -ℤ pos 1) k (omega (arith, lin)) (omega (arith, lin)) in
+      let e : axis-cost s w x ≡ axis-cost s w m +ℤ k +ℤ (k +ℤ pos 1) *ℤ d +ℤ w *ℤ (k *ℤ k) +ℤ (w -ℤ pos 1) *ℤ k = solve (w ∷ x ∷ s ∷ m ∷ []) (search quotes depth 30 fits 20000) tt in
+      omega (arith, lin)
+
+  earlier : (x : ℤ) → x <ℤ m → axis-cost s w m <ℤ axis-cost s w x
+  earlier x before =
+      let k = m -ℤ pos 1 -ℤ x in
+      let d = pos 2 *ℤ s +ℤ w -ℤ pos 2 *ℤ w *ℤ m in
+      let d1 : pos 1 ≤ℤ d = omega (arith, lin, r .high) in
+      let p1 = *ℤ-natural k d (omega (arith, lin)) (omega (arith, lin)) in
+      let p2 = *ℤ-natural w (k *ℤ k) (omega (arith, lin)) (square-low k) in
+      let p3 = *ℤ-natural w k (omega (arith, lin)) (omega (arith, lin)) in
+      let e : axis-cost s w x ≡ axis-cost s w m +ℤ d +ℤ k *ℤ d +ℤ w *ℤ (k *ℤ k) +ℤ w *ℤ k = solve (w ∷ x ∷ s ∷ m ∷ []) (search quotes depth 30 fits 20000) tt in
+      omega (arith, lin)
+
+  pub mean-best : (x : ℤ) → axis-cost s w m ≤ℤ axis-cost s w x
+  mean-best x =
+      by-ltZ x m
+      (λ before. omega (arith, lin, earlier x before))
+      (λ most. by-ltZ m x (λ after. omega (arith, lin, later x after)) (λ least. let e : x ≡ m = omega (arith, lin) in rw e (omega (arith, lin))))
+
+  pub mean-lower : (x : ℤ) → axis-cost s w x ≡ axis-cost s w m → (x ≡ m → ⊥) → x ≡ m +ℤ pos 1
+  mean-lower x same other =
+      by-ltZ x m
+      (λ before. absurd (omega (arith, lin, earlier x before)))
+      (λ most. by-ltZ m x (λ after. omega (arith, lin, later x after)) (λ least. absurd (other (omega (arith, lin)))))
 
 -- the mean of numbers of 16 bits is of 16 bits
 pub mean-low : (s : ℤ) (w : ℕ) (m : ℤ) → 0 < w → Rounded s (pos w) m → negℤ (pos 32768 *ℤ pos w) ≤ℤ s → negsuc 32767 ≤ℤ m

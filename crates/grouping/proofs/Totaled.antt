@@ -1,5 +1,5 @@
 -- Weights and sums, entry by entry, and how large they are.
-use Prim.Native.Nat.{ℕ, _+_, _*_, _≤_}
+use Prim.Native.Nat.{ℕ, _*_, _≤_}
 use native.Mathlib.Omega.{arith}
 use mathlib.Core.Path.{_≡_, ap, _∙_}
 use mathlib.Core.Bool.{Bool, true, false, cond}
@@ -9,14 +9,18 @@ use lib.Dec.{eqb}
 use lib.ListN.{length, getD}
 use lib.IntN.{ℤ, pos, negsuc, negℤ, _+ℤ_, _*ℤ_}
 use lib.Signed.{_≤ℤ_}
+use Rattle.std.specs.shelf.Lists.{All}
+use Rattle.std.proofs.shelf.Elements.{all-map}
 use Rattle.std.proofs.shelf.Tests.{eq-eqb, ne-eqb}
-use Rattle.points.specs.Entries.{Entry, entries}
+use Rattle.points.specs.Entries.{Entry, entry, entries}
 use Rattle.points.specs.declared.point.Point.{Ghosts as PointGhosts}
 use Rattle.points.specs.declared.record.Record.{Ghosts as RecordGhosts}
 use Rattle.grouping.specs.Distance.{Place, number}
 use Rattle.grouping.specs.Choice.{choose}
+use Rattle.grouping.specs.Ranges.{InRange}
 use Rattle.grouping.specs.Totals.{total, within, weight, sum}
-use Rattle.grouping.proofs.Laws.{lin, *ℤ-rises}
+use Rattle.numbers.proofs.Ring.{lin}
+use Rattle.grouping.proofs.Totals.{all-of, total-natural, total-rises, total-scaled, bit-low, bit-high, held-high}
 
 -- ---- one entry more
 
@@ -63,61 +67,51 @@ sum-none cs k axis = omega (arith, ints)
 
 -- ---- how large they are
 
+-- every place is of 16 bits
+abbrev pub Ranged : List Entry → Type 0
+Ranged es = All (λ e. (axis : ℕ) → InRange (number (e .place) axis)) es
+
 -- every place is of 16 bits, and held at most 65,535 times
-abbrev pub Modest : List Entry → Type 0
-Modest [] = Unit {0}
-Modest (e ∷ es) =
-    ((e .hold ≤ 65535) × ((axis : ℕ) → (negsuc 32767 ≤ℤ number (e .place) axis) × (number (e .place) axis ≤ℤ pos 32767))) × Modest es
+pub record Modest (es : List Entry) : Type 0 where
+  pub held : All (λ e. e .hold ≤ 65535) es
+  pub ranged : Ranged es
 
 pub modest-entries : {R : Type 0} (kindP : PointGhosts R) (kindR : RecordGhosts R) →
     ((p : R) (k : ℕ) → (negsuc 32767 ≤ℤ getD (kindP .place p) k (pos 0)) × (getD (kindP .place p) k (pos 0) ≤ℤ pos 32767)) →
     ((r : R) → (1 ≤ kindR .hold r) × (kindR .hold r ≤ 65535)) →
     (rs : List R) → Modest (entries kindP kindR rs)
-modest-entries kindP kindR ranged held [] = tt
-modest-entries kindP kindR ranged held (r ∷ rs) = ((held r .1, ranged r), modest-entries kindP kindR ranged held rs)
+modest-entries kindP kindR ranged held rs =
+    record {
+      held = all-map (λ e. e .hold ≤ 65535) (λ r. entry kindP kindR r) rs (all-of (λ r. held r .1) rs);
+      ranged = all-map (λ e. (axis : ℕ) → InRange (number (e .place) axis)) (λ r. entry kindP kindR r) rs (all-of ranged rs);
+    }
 
-part-low : (b : Bool) (h : ℕ) → pos 0 ≤ℤ (pos h *ℤ cond b (pos 1) (pos 0))
-part-low true h = omega (arith, ints)
-part-low false h = omega (arith, ints)
-
-part-high : (b : Bool) (h : ℕ) → (pos h *ℤ cond b (pos 1) (pos 0)) ≤ℤ pos h
-part-high true h = omega (arith, ints)
-part-high false h = omega (arith, ints)
-
-part-sum-low : (b : Bool) (h : ℕ) (x : ℤ) → negsuc 32767 ≤ℤ x → negℤ (pos 32768 *ℤ (pos h *ℤ cond b (pos 1) (pos 0))) ≤ℤ (pos h *ℤ cond b x (pos 0))
-part-sum-low true h x l =
-    let one : pos h *ℤ pos 1 ≡ pos h = omega (arith, ints) in
-    let end : pos h *ℤ negsuc 32767 ≡ negℤ (pos (32768 * h)) = omega (arith, ints) in
-    omega (arith, ints, *ℤ-rises (pos h) (negsuc 32767) x (omega (arith, ints)) l)
-part-sum-low false h x l = omega (arith, ints)
-
-part-sum-high : (b : Bool) (h : ℕ) (x : ℤ) → x ≤ℤ pos 32767 → (pos h *ℤ cond b x (pos 0)) ≤ℤ (pos 32767 *ℤ (pos h *ℤ cond b (pos 1) (pos 0)))
-part-sum-high true h x l =
-    let one : pos h *ℤ pos 1 ≡ pos h = omega (arith, ints) in
-    let end : pos h *ℤ pos 32767 ≡ pos (32767 * h) = omega (arith, ints) in
-    omega (arith, ints, *ℤ-rises (pos h) x (pos 32767) (omega (arith, ints)) l)
-part-sum-high false h x l = omega (arith, ints)
+-- within, or 0
+either : (b : Bool) (x lo hi : ℤ) → lo ≤ℤ x → x ≤ℤ hi → (cond b lo (pos 0) ≤ℤ cond b x (pos 0)) × (cond b x (pos 0) ≤ℤ cond b hi (pos 0))
+either true x lo hi l h = (l, h)
+either false x lo hi l h = (omega (arith, lin), omega (arith, lin))
 
 module _ (cs : List Place) (k : ℕ) where
-  here : Entry → Bool
-  here e = eqb (choose cs (e .place)) k
+  here : Place → Bool
+  here p = eqb (choose cs p) k
 
   pub weight-low : (es : List Entry) → pos 0 ≤ℤ weight es cs k
   unfolding weight here
-  weight-low [] = omega (arith, ints)
-  weight-low (e ∷ es) = omega (arith, lin, part-low (here e) (e .hold), weight-low es)
+  weight-low es = total-natural (within cs k (λ p. pos 1)) (λ p. bit-low (here p)) es
 
-  pub weight-high : (es : List Entry) → Modest es → weight es cs k ≤ℤ pos (65535 * length es)
+  pub weight-high : (es : List Entry) → All (λ e. e .hold ≤ 65535) es → weight es cs k ≤ℤ pos (65535 * length es)
   unfolding weight here
-  weight-high [] m = omega (arith, ints)
-  weight-high (e ∷ es) m = omega (arith, lin, part-high (here e) (e .hold), weight-high es (m .1), m .0 .0)
+  weight-high es h =
+      omega (arith, lin, held-high es h, total-rises (λ p. Unit {0}) (within cs k (λ p. pos 1)) (λ p. pos 1) (λ p u. bit-high (here p)) es (all-of (λ e. tt) es))
 
-  pub sum-low : (es : List Entry) (axis : ℕ) → Modest es → negℤ (pos 32768 *ℤ weight es cs k) ≤ℤ sum es cs k axis
+  pub sum-low : (es : List Entry) (axis : ℕ) → Ranged es → negℤ (pos 32768 *ℤ weight es cs k) ≤ℤ sum es cs k axis
   unfolding weight sum here
-  sum-low [] axis m = omega (arith, ints)
-  sum-low (e ∷ es) axis m = omega (arith, ints, part-sum-low (here e) (e .hold) (number (e .place) axis) (m .0 .1 axis .0), sum-low es axis (m .1))
+  sum-low es axis r =
+      let f : Place → ℤ = λ p. number p axis in
+      omega (arith, ints, total-scaled here (negsuc 32767) es, total-rises (λ p. (a : ℕ) → InRange (number p a)) (λ p. cond (here p) (negsuc 32767) (pos 0)) (within cs k f) (λ p h. either (here p) (f p) (negsuc 32767) (pos 32767) (h axis .0) (h axis .1) .0) es r)
 
-  pub sum-high : (es : List Entry) (axis : ℕ) → Modest es → sum es cs k axis ≤ℤ (pos 32767 *ℤ weight es cs k)
+  pub sum-high : (es : List Entry) (axis : ℕ) → Ranged es → sum es cs k axis ≤ℤ (pos 32767 *ℤ weight es cs k)
   unfolding weight sum here
-  sum-high [] axis m = omega (arith, ints)
-  sum-high (e ∷ es) axis m = omega (arith, ints, part-sum-high (here e) (e .hold) (number (e .place) axis) (m .0 .1 axis .1), sum-high es axis (m .1))
+  sum-high es axis r =
+      let f : Place → ℤ = λ p. number p axis in
+      omega (arith, ints, total-scaled here (pos 32767) es, total-rises (λ p. (a : ℕ) → InRange (number p a)) (within cs k f) (λ p. cond (here p) (pos 32767) (pos 0)) (λ p h. either (here p) (f p) (negsuc 32767) (pos 32767) (h axis .0) (h axis .1) .1) es r)

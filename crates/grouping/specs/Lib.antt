@@ -1,7 +1,17 @@
 pub mod Advances
+pub mod Bounds
+pub mod Boxes
 pub mod Choice
+pub mod Costs
 pub mod Distance
+pub mod Examples
+pub mod Expansion
 pub mod Groups
+pub mod Moving
+pub mod Ranges
+pub mod RoundLaws
 pub mod Rounding
 pub mod Rounds
+pub mod RunLaws
 pub mod Totals
+pub mod Unfolded

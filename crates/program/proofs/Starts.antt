@@ -1,6 +1,5 @@
 -- The centers that the groups start from.
 use mathlib.Core.Path.{_≡_, refl, sym, ap, subst, _∙_}
-use mathlib.Core.Bool.{Bool}
 use mathlib.Core.List.{List, [], _∷_, _++_, map}
 use Prim.Native.Nat.{ℕ, _+_, _-_, _≤_, _<_}
 use native.Mathlib.Nat.{sub-zero}
@@ -15,7 +14,7 @@ use Rattle.files.specs.Rows.{padded}
 use Rattle.grouping.specs.declared.group.Group.{Group}
 use Rattle.grouping.specs.Distance.{Place}
 use Rattle.grouping.specs.Groups.{Tallied, placeOf, places}
-use Rattle.grouping.specs.Rounds.{Rounds}
+use Rattle.grouping.specs.Moving.{settled-centers}
 use Rattle.program.specs.Answers.{startAt}
 
 -- one center more
@@ -37,8 +36,8 @@ module _ (old new : List Group) (n : ℕ) (fits : n ≤ length old) (kept : leng
   as-long = omega (arith, length-append new (drop (n - 0) old), length-drop (n - 0) old, written, sub-zero n)
 
 -- the same, with other names for the entries, the places and the groups
-pub same-chain : (es es′ : List Entry) (starts starts′ ends ends′ : List Place) (n : ℕ) (settled : Bool) → es ≡ es′ → starts ≡ starts′ → ends ≡ ends′ → Rounds es starts n settled ends → Rounds es′ starts′ n settled ends′
-same-chain es es′ starts starts′ ends ends′ n settled p q r h = subst (λ x. Rounds x starts′ n settled ends′) p (subst (λ x. Rounds es x n settled ends′) q (subst (Rounds es starts n settled) r h))
+pub same-centers : (es es′ : List Entry) (starts starts′ ends ends′ : List Place) → es ≡ es′ → starts ≡ starts′ → ends ≡ ends′ → ends ≡ settled-centers es 100 starts → ends′ ≡ settled-centers es′ 100 starts′
+same-centers es es′ starts starts′ ends ends′ p q r h = sym r ∙ h ∙ (λ i. settled-centers (p i) 100 (q i))
 
 pub same-tallies : (es es′ : List Entry) (axes : ℕ) (groups groups′ : List Group) → es ≡ es′ → groups ≡ groups′ → Tallied es (places axes groups) groups → Tallied es′ (places axes groups′) groups′
 same-tallies es es′ axes groups groups′ p q h = subst (λ x. Tallied x (places axes groups′) groups′) p (subst (λ x. Tallied es (places axes x) x) q h)

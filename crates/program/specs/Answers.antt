@@ -1,9 +1,7 @@
 -- What the program answers to two files.
 use mathlib.Core.Path.{_≡_}
-use mathlib.Core.Bool.{Bool, true}
-use mathlib.Core.Logic.{_⊎_}
 use mathlib.Core.List.{List, map}
-use Prim.Native.Nat.{ℕ, _≤_}
+use Prim.Native.Nat.{ℕ}
 use lib.IntN.{ℤ, pos, natAbs}
 use lib.ListN.{length, getD, take}
 use Rattle.std.specs.declared.option.Option.{Option}
@@ -20,7 +18,7 @@ use Rattle.files.specs.Rows.{padded}
 use Rattle.grouping.specs.declared.group.Group.{Group}
 use Rattle.grouping.specs.Distance.{Place}
 use Rattle.grouping.specs.Groups.{Tallied, places}
-use Rattle.grouping.specs.Rounds.{Rounds}
+use Rattle.grouping.specs.Moving.{settled-centers}
 use Rattle.faults.specs.declared.program.ProgramFault.{ProgramFault}
 use Rattle.program.specs.declared.report.Report.{Report}
 use Rattle.program.specs.Inputs.{Accepted, Refused}
@@ -29,16 +27,12 @@ use Rattle.program.specs.Inputs.{Accepted, Refused}
 abbrev pub groupsIn : Report → List Group
 groupsIn report = take (report .count) (report .groups)
 
--- The report has the centers that rounds from these places come to: until one moves nothing, and at most 100; and the weights
--- and sums of their groups.
+-- The report has the centers that rounds from these places come to, until one moves nothing and at most 100; and the weights and sums
+-- of their groups.
 pub record GroupedFrom (kind : FileKind) (axes : ℕ) (es : List Entry) (starts : List Place) (report : Report) : Type 0 where
   pub kind-is : report .kind ≡ kind
   pub count-is : report .count ≡ length starts
-  pub rounds : ℕ
-  pub settled : Bool
-  pub chain : Rounds es starts rounds settled (places axes (groupsIn report))
-  pub most : rounds ≤ 100
-  pub ends : (settled ≡ true) ⊎ (rounds ≡ 100)
+  pub centers-are : places axes (groupsIn report) ≡ settled-centers es 100 starts
   pub tallied : Tallied es (places axes (groupsIn report)) (groupsIn report)
 
 -- the place of a center row

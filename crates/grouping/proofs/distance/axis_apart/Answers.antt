@@ -6,7 +6,7 @@ use lib.IntN.{_-ℤ_, _*ℤ_}
 use mir.Syntax.{w16, w64}
 use mir.Val.{SFits}
 use Rattle.std.proofs.shelf.Signed.{toZ-ofZ}
-use Rattle.grouping.proofs.Laws.{square-low}
+use Rattle.numbers.proofs.Ring.{square-low}
 use Rattle.grouping.proofs.Distances.{apart-high, apart-fits}
 use Rattle.grouping.proofs.distance.axis_apart.Needs as need
 

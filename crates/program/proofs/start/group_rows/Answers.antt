@@ -8,7 +8,7 @@ use lib.ListN.{length, take}
 use Rattle.std.proofs.shelf.Lists.{length-map}
 use Rattle.points.specs.Entries.{entries}
 use Rattle.grouping.specs.Groups.{places}
-use Rattle.program.proofs.Starts.{as-long, in-front, same-chain, same-tallies}
+use Rattle.program.proofs.Starts.{as-long, in-front, same-centers, same-tallies}
 use Rattle.program.proofs.start.group_rows.Needs as need
 
 pub ghost-result : need.ghost-result
@@ -29,10 +29,6 @@ returns g c =
     record {
       kind-is = c .kind .ensures;
       count-is = sym (length-map (c .args .rows .now) _);
-      rounds = c .group .result .rounds;
-      settled = c .group .result .settled;
-      chain = same-chain _ _ _ _ _ _ _ _ es (ap (λ k. places axes (take k old)) (sub-zero n) ∙ c .start-groups .ensures axes) (ap (places axes) (sym front)) (c .group .ensures .rounds);
-      most = c .group .ensures .most;
-      ends = c .group .ensures .ends;
+      centers-are = same-centers _ _ _ _ _ _ es (ap (λ k. places axes (take k old)) (sub-zero n) ∙ c .start-groups .ensures axes) (ap (places axes) (sym front)) (c .group .ensures .centers);
       tallied = same-tallies _ _ axes _ _ es (sym front) (c .group .ensures .tallied);
     }

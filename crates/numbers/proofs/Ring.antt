@@ -1,10 +1,10 @@
--- Laws of whole numbers.
+-- Laws of products, and of their order.
 use Prim.Native.Nat.{ℕ, zero, suc, _*_, _≤_}
-use mathlib.Core.Path.{_≡_, _∙_}
+use mathlib.Core.Path.{_≡_, ap, _∙_}
 use native.Mathlib.Omega.{arith}
 use native.Mathlib.Nat.{mul-le-mul}
 use borrow.Author.Differences.{same-out, same-in, apart-out, lt-out, le-out, below-in, at-most-in, sum-is, neg-is}
-use lib.IntN.{ℤ, pos, negsuc, natAbs, sucℤ, predℤ, negℤ, _+ℤ_, _-ℤ_, _*ℤ_, +ℤ-idr, +ℤ-invl, +ℤ-sucℤ, +ℤ-predℤ, sucℤ-*ℤ, predℤ-*ℤ, zero-*ℤ, *ℤ-comm}
+use lib.IntN.{ℤ, pos, negsuc, natAbs, sucℤ, predℤ, negℤ, _+ℤ_, _-ℤ_, _*ℤ_, +ℤ-idr, +ℤ-invl, +ℤ-sucℤ, +ℤ-predℤ, sucℤ-*ℤ, predℤ-*ℤ, zero-*ℤ, *ℤ-comm, *ℤ-one, one}
 use lib.Signed.{_≤ℤ_}
 
 -- linear arithmetic over ℤ, each product an unknown
@@ -27,8 +27,22 @@ add-*ℤ a b k = by-steps (λ x. (a +ℤ x) *ℤ k ≡ a *ℤ k +ℤ x *ℤ k)
 pub *ℤ-add : (k a b : ℤ) → k *ℤ (a +ℤ b) ≡ k *ℤ a +ℤ k *ℤ b
 *ℤ-add k a b = *ℤ-comm k (a +ℤ b) ∙ add-*ℤ a b k ∙ rw (*ℤ-comm a k, *ℤ-comm b k)
 
-neg-*ℤ : (a b : ℤ) → negℤ a *ℤ b ≡ negℤ (a *ℤ b)
+pub neg-*ℤ : (a b : ℤ) → negℤ a *ℤ b ≡ negℤ (a *ℤ b)
 neg-*ℤ a b = let e : (negℤ a +ℤ a) *ℤ b ≡ pos 0 = rw (+ℤ-invl a) (zero-*ℤ b) in omega (arith, lin, add-*ℤ (negℤ a) a b)
+
+pub *ℤ-neg : (a b : ℤ) → a *ℤ negℤ b ≡ negℤ (a *ℤ b)
+*ℤ-neg a b = *ℤ-comm a (negℤ b) ∙ neg-*ℤ b a ∙ ap negℤ (*ℤ-comm b a)
+
+pub *ℤ-assoc : (a b c : ℤ) → (a *ℤ b) *ℤ c ≡ a *ℤ (b *ℤ c)
+*ℤ-assoc a b c = by-steps (λ x. (x *ℤ b) *ℤ c ≡ x *ℤ (b *ℤ c))
+    (rw (zero-*ℤ b, zero-*ℤ c, zero-*ℤ (b *ℤ c)))
+    (λ m h. rw (sucℤ-*ℤ m b, sucℤ-*ℤ m (b *ℤ c), add-*ℤ (m *ℤ b) b c) (omega (arith, lin)))
+    (λ m h. rw (predℤ-*ℤ m b, predℤ-*ℤ m (b *ℤ c), add-*ℤ (m *ℤ b) (negℤ b) c, neg-*ℤ b c) (omega (arith, lin)))
+    a
+
+pub *ℤ-unit : (a : ℤ) → a *ℤ pos 1 ≡ a
+unfolding one
+*ℤ-unit a = *ℤ-one a
 
 pub square-low : (a : ℤ) → pos 0 ≤ℤ (a *ℤ a)
 square-low (pos n) = omega (arith, lin)
@@ -38,13 +52,11 @@ pub square-high : (z : ℤ) (n : ℕ) → natAbs z ≤ n → (z *ℤ z) ≤ℤ p
 square-high (pos a) n h = omega (arith, lin, mul-le-mul h h)
 square-high (negsuc a) n h = omega (arith, lin, mul-le-mul h h)
 
-*ℤ-natural : (a b : ℤ) → pos 0 ≤ℤ a → pos 0 ≤ℤ b → pos 0 ≤ℤ (a *ℤ b)
+pub *ℤ-natural : (a b : ℤ) → pos 0 ≤ℤ a → pos 0 ≤ℤ b → pos 0 ≤ℤ (a *ℤ b)
 *ℤ-natural (pos a) (pos b) h k = omega (arith, lin)
 *ℤ-natural (pos a) (negsuc b) h k = absurd (omega (arith, lin))
 *ℤ-natural (negsuc a) b h k = absurd (omega (arith, lin))
 
 -- a product rises with its second factor
 pub *ℤ-rises : (z x y : ℤ) → pos 0 ≤ℤ z → x ≤ℤ y → (z *ℤ x) ≤ℤ (z *ℤ y)
-*ℤ-rises z x y k h =
-    let e : z *ℤ (y -ℤ x) ≡ z *ℤ y -ℤ z *ℤ x = *ℤ-add z y (negℤ x) ∙ rw (*ℤ-comm z (negℤ x), neg-*ℤ x z, *ℤ-comm x z) in
-    omega (arith, lin, *ℤ-natural z (y -ℤ x) k (omega (arith, lin)))
+*ℤ-rises z x y k h = omega (arith, lin, *ℤ-natural z (y -ℤ x) k (omega (arith, lin)), *ℤ-add z y (negℤ x), *ℤ-neg z x)

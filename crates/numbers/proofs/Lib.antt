@@ -1,0 +1,5 @@
+pub mod NormalForms
+pub mod Polynomials
+pub mod Quote
+pub mod Ring
+pub mod Sums
