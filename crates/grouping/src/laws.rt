@@ -34,7 +34,7 @@ pub fn outcome_laws()
     ensures only { λ _. ⌜ MovesOnly ⌝ }
 {}
 
-// No round raises the distortion; one that moves a center lowers it, or keeps it and lowers the coordinate total.
+// No round raises the distortion. Where a center moves, the distortion falls, or it stays and the coordinate total falls.
 pub fn descent_laws()
     ensures never { λ _. ⌜ NeverRises ⌝ }
     ensures lowers { λ _. ⌜ Descends ⌝ }
