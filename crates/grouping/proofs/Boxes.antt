@@ -6,7 +6,7 @@ use mathlib.Core.Logic.{inl, inr}
 use mathlib.Core.List.{[], _∷_}
 use borrow.Author.Differences.{ints}
 use lib.ListN.{length}
-use lib.IntN.{ℤ, pos, _+ℤ_, _-ℤ_, _*ℤ_}
+use lib.IntN.{ℤ, pos, negℤ, _+ℤ_, _-ℤ_, _*ℤ_}
 use lib.Signed.{_≤ℤ_, ltZ}
 use Rattle.std.proofs.shelf.Signed.{by-ltZ}
 use Rattle.numbers.proofs.Quote.{solve, quotes}
@@ -15,20 +15,26 @@ use Rattle.grouping.specs.Distance.{Place, dist}
 use Rattle.grouping.specs.Choice.{center}
 use Rattle.grouping.specs.Boxes.{Inside, none, more, corner, apart, far, near, CornerDecides, FarBelowNear, FarAndNear, Reached, FarAndNearReached}
 
+-- a product of numbers that are both at most 0
+both-low : (a b : ℤ) → a ≤ℤ pos 0 → b ≤ℤ pos 0 → pos 0 ≤ℤ (a *ℤ b)
+both-low a b p q =
+    let n = *ℤ-natural (negℤ a) (negℤ b) (omega (arith, lin)) (omega (arith, lin)) in
+    let i : negℤ a *ℤ negℤ b ≡ a *ℤ b = solve (a ∷ b ∷ []) (search quotes depth 30 fits 20000) tt in
+    omega (arith, lin)
+
 -- ---- the corner
 
--- one axis: from the end of lo..hi on the side of c to x, c loses at least as much as l
+-- from e to x, c loses at least as much as l, if c lies on that side of l where e lies of x
+loses : (e x l c : ℤ) → pos 0 ≤ℤ ((c -ℤ l) *ℤ (e -ℤ x)) → (apart e c +ℤ apart x l) ≤ℤ (apart x c +ℤ apart e l)
+loses e x l c n =
+    let d = (c -ℤ l) *ℤ (e -ℤ x) in
+    let i : apart x c +ℤ apart e l ≡ apart e c +ℤ apart x l +ℤ (d +ℤ d) = solve (e ∷ x ∷ l ∷ c ∷ []) (search quotes depth 30 fits 20000) tt in
+    omega (arith, lin)
+
+-- one axis: so it is from the end of lo..hi on the side of c
 axis-gap : (lo hi x l c : ℤ) (b : Bool) → ltZ l c ≡ b → lo ≤ℤ x → x ≤ℤ hi → (apart (cond b hi lo) c +ℤ apart x l) ≤ℤ (apart x c +ℤ apart (cond b hi lo) l)
-axis-gap lo hi x l c true e p q =
-    let d = (c -ℤ l) *ℤ (hi -ℤ x) in
-    let n = *ℤ-natural (c -ℤ l) (hi -ℤ x) (omega (arith, ints)) (omega (arith, ints)) in
-    let i : apart x c +ℤ apart hi l ≡ apart hi c +ℤ apart x l +ℤ (d +ℤ d) = solve (hi ∷ x ∷ l ∷ c ∷ []) (search quotes depth 30 fits 20000) tt in
-    omega (arith, lin)
-axis-gap lo hi x l c false e p q =
-    let d = (l -ℤ c) *ℤ (x -ℤ lo) in
-    let n = *ℤ-natural (l -ℤ c) (x -ℤ lo) (omega (arith, ints)) (omega (arith, ints)) in
-    let i : apart x c +ℤ apart lo l ≡ apart lo c +ℤ apart x l +ℤ (d +ℤ d) = solve (lo ∷ x ∷ l ∷ c ∷ []) (search quotes depth 30 fits 20000) tt in
-    omega (arith, lin)
+axis-gap lo hi x l c true e p q = loses hi x l c (*ℤ-natural (c -ℤ l) (hi -ℤ x) (omega (arith, ints)) (omega (arith, ints)))
+axis-gap lo hi x l c false e p q = loses lo x l c (both-low (c -ℤ l) (lo -ℤ x) (omega (arith, ints)) (omega (arith, ints)))
 
 -- from the corner to a place of the box the candidate loses at least as much as the leader
 corner-gap : {los his p : Place} (leader candidate : Place) → length leader ≡ length los → length candidate ≡ length los → Inside los his p →
@@ -46,18 +52,18 @@ corner-decides los his cs i j h k (inr b) p r =
 
 -- ---- the greatest and the least distance
 
--- y lies between x and z
-between : (x y z : ℤ) → x ≤ℤ y → y ≤ℤ z → apart y z ≤ℤ apart x z
-between x y z p q =
-    let n = *ℤ-natural (y -ℤ x) (z -ℤ x +ℤ (z -ℤ y)) (omega (arith, lin)) (omega (arith, lin)) in
-    let i : apart x z ≡ apart y z +ℤ (y -ℤ x) *ℤ (z -ℤ x +ℤ (z -ℤ y)) = solve (x ∷ y ∷ z ∷ []) (search quotes depth 30 fits 20000) tt in
-    omega (arith, lin)
-
-between-down : (x y z : ℤ) → z ≤ℤ y → y ≤ℤ x → apart y z ≤ℤ apart x z
-between-down x y z p q =
-    let n = *ℤ-natural (x -ℤ y) (x -ℤ z +ℤ (y -ℤ z)) (omega (arith, lin)) (omega (arith, lin)) in
+-- y is no farther from z than x is
+closer : (x y z : ℤ) → pos 0 ≤ℤ ((x -ℤ y) *ℤ (x -ℤ z +ℤ (y -ℤ z))) → apart y z ≤ℤ apart x z
+closer x y z n =
     let i : apart x z ≡ apart y z +ℤ (x -ℤ y) *ℤ (x -ℤ z +ℤ (y -ℤ z)) = solve (x ∷ y ∷ z ∷ []) (search quotes depth 30 fits 20000) tt in
     omega (arith, lin)
+
+-- where it lies between them, from below or from above
+between : (x y z : ℤ) → x ≤ℤ y → y ≤ℤ z → apart y z ≤ℤ apart x z
+between x y z p q = closer x y z (both-low (x -ℤ y) (x -ℤ z +ℤ (y -ℤ z)) (omega (arith, lin)) (omega (arith, lin)))
+
+between-down : (x y z : ℤ) → z ≤ℤ y → y ≤ℤ x → apart y z ≤ℤ apart x z
+between-down x y z p q = closer x y z (*ℤ-natural (x -ℤ y) (x -ℤ z +ℤ (y -ℤ z)) (omega (arith, lin)) (omega (arith, lin)))
 
 greater : (x y : ℤ) (b : Bool) → ltZ y x ≡ b → (x ≤ℤ cond b x y) × (y ≤ℤ cond b x y)
 greater x y true e = (omega (arith, ints), omega (arith, ints))
