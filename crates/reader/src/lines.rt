@@ -55,11 +55,4 @@ impl<'a> Reader<'a> {
         self.column = 0;
         NextLine::Ended
     }
-
-    // The number of the current line, 0 before the first.
-    pub fn line(&self) -> usize
-        ensures { λ r. ⌜ r ≡ lineNumber (now (self .entry)) ⌝ }
-    {
-        self.line
-    }
 }
