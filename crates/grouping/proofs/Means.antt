@@ -71,6 +71,9 @@ not-above s w m n h a b l =
 pub one-mean : (s w m n : ℤ) → pos 0 <ℤ w → Rounded s w m → Rounded s w n → m ≡ n
 one-mean s w m n h a b = by-ltZ m n (λ l. absurd (not-above s w m n h a b l)) (λ l. by-ltZ n m (λ k. absurd (not-above s w n m h b a k)) (λ k. omega (arith, lin)))
 
+pub the-mean : {s m : ℤ} {w : ℕ} → 0 < w → Rounded s (pos w) m → m ≡ rounded s (pos w)
+the-mean {s = s} {m = m} {w = w} h r = let some : pos 0 <ℤ pos w = omega (arith, lin) in one-mean s (pos w) m (rounded s (pos w)) some r (rounded-is s (pos w) some)
+
 -- it costs its axis least, and the lower of two that do
 module _ (s w m : ℤ) (positive : pos 0 <ℤ w) (r : Rounded s w m) where
   later : (x : ℤ) → m <ℤ x → (axis-cost s w m +ℤ (x -ℤ m -ℤ pos 1)) ≤ℤ axis-cost s w x

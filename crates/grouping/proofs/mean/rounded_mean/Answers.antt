@@ -8,7 +8,7 @@ use mir.Val.{SFits}
 use Rattle.std.specs.Numbers.{divEuclid, remEuclid}
 use Rattle.std.proofs.shelf.Signed.{toZ-ofZ}
 use Rattle.grouping.specs.Rounding.{Rounded}
-use Rattle.grouping.proofs.Means.{operands, rounds-down, rounds-up, test-down, test-up, up-fits, next-is}
+use Rattle.grouping.proofs.Means.{operands, rounds-down, rounds-up, test-down, test-up, up-fits, next-is, the-mean}
 use Rattle.grouping.proofs.mean.rounded_mean.Needs as need
 
 pub returns-then-rest-w : need.returns-then-rest-w
@@ -20,8 +20,10 @@ returns-then-rest-w c =
     let q = operands divEuclid (c .div-euclid-low .result) s w (c .fits .sum) small (c .div-euclid-low .ensures) in
     let r = operands remEuclid (c .rem-euclid-rest .result) s w (c .fits .sum) small (c .rem-euclid-rest .ensures .value) in
     let fits : SFits w64 (c .div-euclid-low .result) = search needs in
+    let m = subst (Rounded s (pos w)) (sym (toZ-ofZ w64 _ fits ∙ q)) (rounds-down s w some (test-down s w (c .rem-euclid-rest .result) some small r (c .if-rest-w .taken))) in
     record {
-      mean = λ _. subst (Rounded s (pos w)) (sym (toZ-ofZ w64 _ fits ∙ q)) (rounds-down s w some (test-down s w (c .rem-euclid-rest .result) some small r (c .if-rest-w .taken)));
+      mean = λ _. m;
+      is = λ _. the-mean some m;
       none = λ z. absurd (omega arith);
     }
 
@@ -36,7 +38,9 @@ returns-else-rest-w c =
     let low : SFits w64 (c .div-euclid-low .result) = search needs in
     let half = test-up s w (c .rem-euclid-rest .result) some small r (c .if-rest-w .left) in
     let fits : SFits w64 (c .div-euclid-low .result +ℤ pos 1) = subst (λ z. SFits w64 (z +ℤ pos 1)) (sym q) (up-fits s w (c .fits .sum) some half) in
+    let m = subst (Rounded s (pos w)) (sym (next-is _ _ low fits q)) (rounds-up s w some half) in
     record {
-      mean = λ _. subst (Rounded s (pos w)) (sym (next-is _ _ low fits q)) (rounds-up s w some half);
+      mean = λ _. m;
+      is = λ _. the-mean some m;
       none = λ z. absurd (omega arith);
     }
