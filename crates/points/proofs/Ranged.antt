@@ -7,8 +7,8 @@ use Rattle.value.specs.declared.range.ValueRange.{ValueRange}
 pub nearest_same : (range : ValueRange) (z : ℤ) → Within range z → nearest_in range z ≡ z
 nearest_same range z h = let low = h.0 in let high = h.1 in omega (arith, ints, clamps)
 
-pub nearest_in : (range : ValueRange) (z : ℤ) → range.least ≤ℤ range.greatest → Within range (nearest_in range z)
-nearest_in range z h = (omega (arith, ints, clamps), omega (arith, ints, clamps))
+pub nearest_within : (range : ValueRange) (z : ℤ) → range.least ≤ℤ range.greatest → Within range (nearest_in range z)
+nearest_within range z h = (omega (arith, ints, clamps), omega (arith, ints, clamps))
 
 narrow : (x : ℤ) → pos 0 ≤ℤ x → x ≤ℤ pos 32767 → to_z w16 (of_z w16 (to_z w32 (of_z w32 x))) ≡ x
 narrow x low high = omega (arith, ints)

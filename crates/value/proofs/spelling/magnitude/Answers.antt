@@ -6,26 +6,26 @@ use Rattle.value.specs.Spelling.{Writes}
 use Rattle.value.proofs.Shapes.{some_of, first_of, digit_of, digit_is, under, written}
 use Rattle.value.proofs.spelling.magnitude.Goals as goal
 
-pub returns-in-default : goal.returns-in-default
-returns-in-default c = (refl, λ n w. omega (arith, ltb-true, some_of _ n w))
+pub returns-in_default : goal.returns-in_default
+returns-in_default c = (refl, λ n w. omega (arith, ltb-true, some_of _ n w))
 
-pub returns-in-default·2 : goal.returns-in-default·2
-returns-in-default·2 c = (refl, λ n w. omega (arith, some_of _ n w, first_of _ n w))
+pub returns-in_default-2 : goal.returns-in_default-2
+returns-in_default-2 c = (refl, λ n w. omega (arith, some_of _ n w, first_of _ n w))
 
-pub returns-in-default·3 : goal.returns-in-default·3
-returns-in-default·3 c = (refl, λ n w. omega (arith, some_of _ n w, digit_of _ n w 0 (some_of _ n w)))
+pub returns-in_default-3 : goal.returns-in_default-3
+returns-in_default-3 c = (refl, λ n w. omega (arith, some_of _ n w, digit_of _ n w 0 (some_of _ n w)))
 
-pub overflow-mul-n : goal.overflow-mul-n
-overflow-mul-n c = omega (arith, under _ _ c.loop-d.invariant.0 c.loop-d-test.true c.requires, c.loop-d.invariant.1)
+pub overflow_mul-n : goal.overflow_mul-n
+overflow_mul-n c = omega (arith, under _ _ c.loop-d.invariant.0 c.loop-d-test.true c.requires, c.loop-d.invariant.1)
 
-pub overflow-add-n : goal.overflow-add-n
-overflow-add-n c = omega (arith, under _ _ c.loop-d.invariant.0 c.loop-d-test.true c.requires, c.loop-d.invariant.1)
+pub overflow_add-n : goal.overflow_add-n
+overflow_add-n c = omega (arith, under _ _ c.loop-d.invariant.0 c.loop-d-test.true c.requires, c.loop-d.invariant.1)
 
-pub returns-in-default-d : goal.returns-in-default-d
-returns-in-default-d c = (refl, λ n w. omega (arith, digit_of _ n w c.loop-d.d-index c.loop-d-test.true))
+pub returns-in_default-d : goal.returns-in_default-d
+returns-in_default-d c = (refl, λ n w. omega (arith, digit_of _ n w c.loop-d.d-index c.loop-d-test.true))
 
-pub returns-in-default-d·2 : goal.returns-in-default-d·2
-returns-in-default-d·2 c = (refl, λ n w. omega (arith, digit_of _ n w c.loop-d.d-index c.loop-d-test.true))
+pub returns-in_default-d-2 : goal.returns-in_default-d-2
+returns-in_default-d-2 c = (refl, λ n w. omega (arith, digit_of _ n w c.loop-d.d-index c.loop-d-test.true))
 
 pub loop-d-preserved : goal.loop-d-preserved
 loop-d-preserved c =
