@@ -33,8 +33,8 @@ impl<'a, R: Record> BoxTable<'a, R> {
     // Parts the numbers in the order from one place to another by the cut; how many lie below its value.
     fn part_run(&mut self, cut: &Cut, from: usize, to: usize) -> usize
         requires { (from ≤ to) × (to ≤ length self.old.recording.records.now) }
-        ensures parted { Parted (entries_of R.Point R.Record self.old) cut.now (between from to self.old.order) (between from to self.new.order) result (to - from) }
-        ensures counted { result ≡ length (filter (under (entries_of R.Point R.Record self.old) cut.now) (between from to self.old.order)) }
+        ensures parted { Parted (entries_of R.Point R.Record.own self.old) cut.now (between from to self.old.order) (between from to self.new.order) result (to - from) }
+        ensures counted { result ≡ length (filter (under (entries_of R.Point R.Record.own self.old) cut.now) (between from to self.old.order)) }
         ensures reordered { Reordered self.old.order self.new.order from to }
         ensures recording { self.new.recording ≡ self.old.recording }
         ensures nodes { self.new.nodes ≡ self.old.nodes }
@@ -85,7 +85,7 @@ impl<'a, R: Record> BoxTable<'a, R> {
     // How many records of its box lie below the value of the cut.
     fn below(&self, cut: &Cut) -> usize
         requires { cut.now.parent < 2 * self.now.count + 1 }
-        ensures { result ≡ lower (entries_of R.Point R.Record self.now) cut.now (node_at self.now.nodes cut.now.parent) self.now.order }
+        ensures { result ≡ lower (entries_of R.Point R.Record.own self.now) cut.now (node_at self.now.nodes cut.now.parent) self.now.order }
     {
         let node = self.nodes[cut.parent];
         let (from, to) = (node.from, node.to);
@@ -99,8 +99,8 @@ impl<'a, R: Record> BoxTable<'a, R> {
         ensures from { result.from ≡ from }
         ensures to { result.to ≡ to }
         ensures cut { result.cut ≡ None }
-        ensures bounds { BoundsOf (picked (entries_of R.Point R.Record self.now) (between from to self.now.order)) result.bounds }
-        ensures tallies { TalliesOf (picked (entries_of R.Point R.Record self.now) (between from to self.now.order)) result.tallies }
+        ensures bounds { BoundsOf (picked (entries_of R.Point R.Record.own self.now) (between from to self.now.order)) result.bounds }
+        ensures tallies { TalliesOf (picked (entries_of R.Point R.Record.own self.now) (between from to self.now.order)) result.tallies }
     {
         let records = self.recording.records();
         uncut_box(records, &self.order[from..to], from, to)
@@ -111,9 +111,9 @@ impl<'a, R: Record> BoxTable<'a, R> {
         requires room { self.old.count < 127 }
         requires stood { cut.parent < 2 * self.old.count + 1 }
         requires uncut { (node_at self.old.nodes cut.parent).cut ≡ None }
-        requires lower { 0 < lower (entries_of R.Point R.Record self.old) cut (node_at self.old.nodes cut.parent) self.old.order }
-        requires upper { lower (entries_of R.Point R.Record self.old) cut (node_at self.old.nodes cut.parent) self.old.order < (node_at self.old.nodes cut.parent).to - (node_at self.old.nodes cut.parent).from }
-        ensures stands { Stands R.Point R.Record self.old → Stands R.Point R.Record self.new }
+        requires lower { 0 < lower (entries_of R.Point R.Record.own self.old) cut (node_at self.old.nodes cut.parent) self.old.order }
+        requires upper { lower (entries_of R.Point R.Record.own self.old) cut (node_at self.old.nodes cut.parent) self.old.order < (node_at self.old.nodes cut.parent).to - (node_at self.old.nodes cut.parent).from }
+        ensures stands { Stands R.Point R.Record.own self.old → Stands R.Point R.Record.own self.new }
         ensures noted { cuts_of self.new ≡ cuts_of self.old ++ cut ∷ [] }
         ensures recording { self.new.recording ≡ self.old.recording }
     {
@@ -130,9 +130,9 @@ impl<'a, R: Record> BoxTable<'a, R> {
     // Cuts the box of this number: of its records, those below the value on the axis go to a first new box, the others to a second one. A
     // refusal changes nothing.
     pub fn cut(&mut self, parent: usize, axis: usize, value: i16) -> Result<(), CutFault>
-        ensures made { Stands R.Point R.Record self.old → MatchResult result (λ _. Accepted R.Point.axes (entries_of R.Point R.Record self.old) (cuts_of self.old) (cut_by parent axis value)) (λ f. Refused R.Point.axes (entries_of R.Point R.Record self.old) (cuts_of self.old) (cut_by parent axis value) f) }
+        ensures made { Stands R.Point R.Record.own self.old → MatchResult result (λ _. Accepted R.Point.axes (entries_of R.Point R.Record.own self.old) (cuts_of self.old) (cut_by parent axis value)) (λ f. Refused R.Point.axes (entries_of R.Point R.Record.own self.old) (cuts_of self.old) (cut_by parent axis value) f) }
         ensures noted { MatchResult result (λ _. cuts_of self.new ≡ cuts_of self.old ++ cut_by parent axis value ∷ []) (λ _. self.new ≡ self.old) }
-        ensures stands { Stands R.Point R.Record self.old → Stands R.Point R.Record self.new }
+        ensures stands { Stands R.Point R.Record.own self.old → Stands R.Point R.Record.own self.new }
         ensures recording { self.new.recording ≡ self.old.recording }
     {
         if !self.is_uncut(parent) {

@@ -15,7 +15,7 @@ impl<'a, R: Record> BoxTable<'a, R> {
     // How many records box b has, if it can be halved, and else 0.
     fn rate(&self, b: usize) -> usize
         requires { b < 2 * self.now.count + 1 }
-        ensures { Stands R.Point R.Record self.now → Rated R.Point.axes (entries_of R.Point R.Record self.now) (cuts_of self.now) b result }
+        ensures { Stands R.Point R.Record.own self.now → Rated R.Point.axes (entries_of R.Point R.Record.own self.now) (cuts_of self.now) b result }
     {
         let node = self.nodes[b];
         let n = node.to - node.from;
@@ -35,7 +35,7 @@ impl<'a, R: Record> BoxTable<'a, R> {
     // The largest box that can be halved, the first of them.
     fn largest(&self) -> Option<usize>
         ensures there { IfSome result (λ b. b < 2 * self.now.count + 1) }
-        ensures largest { Stands R.Point R.Record self.now → MatchOption result ((b : ℕ) → Halvable R.Point.axes (entries_of R.Point R.Record self.now) (cuts_of self.now) b → ⊥) (λ b. Largest R.Point.axes (entries_of R.Point R.Record self.now) (cuts_of self.now) b) }
+        ensures largest { Stands R.Point R.Record.own self.now → MatchOption result ((b : ℕ) → Halvable R.Point.axes (entries_of R.Point R.Record.own self.now) (cuts_of self.now) b → ⊥) (λ b. Largest R.Point.axes (entries_of R.Point R.Record.own self.now) (cuts_of self.now) b) }
     {
         let mut largest = 0;
         let mut most = self.rate(0);
@@ -55,7 +55,7 @@ impl<'a, R: Record> BoxTable<'a, R> {
     // The cut of box b at the middle of its widest axis.
     fn middle_cut(&self, b: usize) -> Cut
         requires { b < 2 * self.now.count + 1 }
-        ensures { Stands R.Point R.Record self.now → Largest R.Point.axes (entries_of R.Point R.Record self.now) (cuts_of self.now) b → Halves R.Point.axes (entries_of R.Point R.Record self.now) (cuts_of self.now) result }
+        ensures { Stands R.Point R.Record.own self.now → Largest R.Point.axes (entries_of R.Point R.Record.own self.now) (cuts_of self.now) b → Halves R.Point.axes (entries_of R.Point R.Record.own self.now) (cuts_of self.now) result }
     {
         let node = self.nodes[b];
         let axis = widest_axis(&node.bounds, R::axis_count());
@@ -68,9 +68,9 @@ impl<'a, R: Record> BoxTable<'a, R> {
 
     // Halves one box, if there is one to halve and room for two more; whether there was.
     fn halve_one(&mut self) -> bool
-        ensures step { Stands R.Point R.Record self.old → Stepped R.Point.axes (entries_of R.Point R.Record self.old) (cuts_of self.old) result (cuts_of self.new) }
+        ensures step { Stands R.Point R.Record.own self.old → Stepped R.Point.axes (entries_of R.Point R.Record.own self.old) (cuts_of self.old) result (cuts_of self.new) }
         ensures counted { self.new.count ≡ (if result then self.old.count + 1 else self.old.count) }
-        ensures stands { Stands R.Point R.Record self.old → Stands R.Point R.Record self.new }
+        ensures stands { Stands R.Point R.Record.own self.old → Stands R.Point R.Record.own self.new }
         ensures recording { self.new.recording ≡ self.old.recording }
     {
         if self.count == MOST_CUTS {
@@ -90,9 +90,9 @@ impl<'a, R: Record> BoxTable<'a, R> {
 
     // Halves boxes until none is left to halve or all boxes are there; how many cuts that took.
     pub fn halve(&mut self) -> usize
-        ensures halved { Stands R.Point R.Record self.old → Halvings R.Point.axes (entries_of R.Point R.Record self.old) (cuts_of self.old) result (cuts_of self.new) }
-        ensures rests { Stands R.Point R.Record self.old → Rests R.Point.axes (entries_of R.Point R.Record self.old) (cuts_of self.new) }
-        ensures stands { Stands R.Point R.Record self.old → Stands R.Point R.Record self.new }
+        ensures halved { Stands R.Point R.Record.own self.old → Halvings R.Point.axes (entries_of R.Point R.Record.own self.old) (cuts_of self.old) result (cuts_of self.new) }
+        ensures rests { Stands R.Point R.Record.own self.old → Rests R.Point.axes (entries_of R.Point R.Record.own self.old) (cuts_of self.new) }
+        ensures stands { Stands R.Point R.Record.own self.old → Stands R.Point R.Record.own self.new }
         ensures recording { self.new.recording ≡ self.old.recording }
     {
         let mut n = 0;

@@ -24,8 +24,8 @@ pub(crate) fn uncut_box<R: Record>(records: &[R], run: &[u16], from: usize, to: 
     ensures from { result.from ≡ from }
     ensures to { result.to ≡ to }
     ensures cut { result.cut ≡ None }
-    ensures bounds { BoundsOf (picked (entries R.Point R.Record records.now) run.now) result.bounds }
-    ensures tallies { TalliesOf (picked (entries R.Point R.Record records.now) run.now) result.tallies }
+    ensures bounds { BoundsOf (picked (entries R.Point R.Record.own records.now) run.now) result.bounds }
+    ensures tallies { TalliesOf (picked (entries R.Point R.Record.own records.now) run.now) result.tallies }
 {
     BoxNode {
         bounds: bounds_of(records, run),
@@ -88,7 +88,7 @@ fn no_cuts() -> [Cut; 127]
 impl<'a, R: Record> BoxTable<'a, R> {
     // The table of the recording: one box, with all records.
     pub fn new(recording: Recording<'a, R>) -> BoxTable<'a, R>
-        ensures stands { Stands R.Point R.Record result }
+        ensures stands { Stands R.Point R.Record.own result }
         ensures uncut { cuts_of result ≡ [] }
         ensures same { result.recording ≡ recording.entry }
     {

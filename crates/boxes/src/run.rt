@@ -17,7 +17,7 @@ use points::record::Record;
 // The number on axis a of the record of number i.
 fn number_at<R: Record>(records: &[R], i: u16, a: usize) -> i16
     requires { i < length records.now }
-    ensures { result ≡ number (entry_at (entries R.Point R.Record records.now) i).place a }
+    ensures { result ≡ number (entry_at (entries R.Point R.Record.own records.now) i).place a }
 {
     records[i as usize].axis(a)
 }
@@ -25,7 +25,7 @@ fn number_at<R: Record>(records: &[R], i: u16, a: usize) -> i16
 // Whether the record of number i lies below the value of the cut.
 pub(crate) fn is_below<R: Record>(records: &[R], i: u16, cut: &Cut) -> bool
     requires { i < length records.now }
-    ensures { result ≡ under (entries R.Point R.Record records.now) cut.now i }
+    ensures { result ≡ under (entries R.Point R.Record.own records.now) cut.now i }
 {
     number_at(records, i, cut.axis) < cut.value
 }
@@ -33,7 +33,7 @@ pub(crate) fn is_below<R: Record>(records: &[R], i: u16, cut: &Cut) -> bool
 // Moves the numbers of the records below the value of the cut to the front of the run; how many those are.
 pub(crate) fn part<R: Record>(run: &mut [u16], records: &[R], cut: &Cut) -> usize
     requires { All (λ n. n < length records.now) run.old }
-    ensures { Parted (entries R.Point R.Record records.now) cut.now run.old run.new result (length run.old) }
+    ensures { Parted (entries R.Point R.Record.own records.now) cut.now run.old run.new result (length run.old) }
 {
     let mut k = 0;
     for i in 0..run.len() {
@@ -82,7 +82,7 @@ pub fn amount<R: Record>(r: &R, quantity: &Quantity) -> i64
 fn total_of<R: Record>(records: &[R], run: &[u16], quantity: &Quantity) -> i64
     requires known { All (λ n. n < length records.now) run.now }
     requires few { length run.now ≤ 4096 }
-    ensures { result ≡ total (measured quantity.now) (picked (entries R.Point R.Record records.now) run.now) }
+    ensures { result ≡ total (measured quantity.now) (picked (entries R.Point R.Record.own records.now) run.now) }
 {
     let mut sum = 0;
     for i in run {
@@ -95,7 +95,7 @@ fn total_of<R: Record>(records: &[R], run: &[u16], quantity: &Quantity) -> i64
 pub(crate) fn tallies_of<R: Record>(records: &[R], run: &[u16]) -> Tallies
     requires known { All (λ n. n < length records.now) run.now }
     requires few { length run.now ≤ 4096 }
-    ensures { TalliesOf (picked (entries R.Point R.Record records.now) run.now) result }
+    ensures { TalliesOf (picked (entries R.Point R.Record.own records.now) run.now) result }
 {
     let mut sums = [0; 4];
     for a in 0..4 {
@@ -119,8 +119,8 @@ struct AxisRange {
 fn range_on<R: Record>(records: &[R], run: &[u16], a: usize) -> AxisRange
     requires known { All (λ n. n < length records.now) run.now }
     requires some { 0 < length run.now }
-    ensures low { Lowest a (picked (entries R.Point R.Record records.now) run.now) result.least }
-    ensures high { Highest a (picked (entries R.Point R.Record records.now) run.now) result.greatest }
+    ensures low { Lowest a (picked (entries R.Point R.Record.own records.now) run.now) result.least }
+    ensures high { Highest a (picked (entries R.Point R.Record.own records.now) run.now) result.greatest }
 {
     let mut least = number_at(records, run[0], a);
     let mut greatest = least;
@@ -136,7 +136,7 @@ fn range_on<R: Record>(records: &[R], run: &[u16], a: usize) -> AxisRange
 pub(crate) fn bounds_of<R: Record>(records: &[R], run: &[u16]) -> Bounds
     requires known { All (λ n. n < length records.now) run.now }
     requires some { 0 < length run.now }
-    ensures { BoundsOf (picked (entries R.Point R.Record records.now) run.now) result }
+    ensures { BoundsOf (picked (entries R.Point R.Record.own records.now) run.now) result }
 {
     let mut least = [0; 4];
     let mut greatest = [0; 4];
@@ -154,7 +154,7 @@ pub(crate) fn bounds_of<R: Record>(records: &[R], run: &[u16]) -> Bounds
 // How many records of the run lie below the value of the cut.
 pub(crate) fn count_below<R: Record>(records: &[R], run: &[u16], cut: &Cut) -> usize
     requires { All (λ n. n < length records.now) run.now }
-    ensures { result ≡ length (filter (under (entries R.Point R.Record records.now) cut.now) run.now) }
+    ensures { result ≡ length (filter (under (entries R.Point R.Record.own records.now) cut.now) run.now) }
 {
     let mut n = 0;
     for i in run {

@@ -24,7 +24,7 @@ impl<'a, R: Record> BoxTable<'a, R> {
     // The smallest box of a point that lies in box b.
     fn descend<P: Point>(&self, point: &P, b: usize) -> usize
         requires { b < 2 * self.now.count + 1 }
-        ensures { Stands R.Point R.Record self.now → holds (cuts_of self.now) b (P.Point.place point.now) ≡ true → Smallest (cuts_of self.now) (P.Point.place point.now) result }
+        ensures { Stands R.Point R.Record.own self.now → holds (cuts_of self.now) b (P.Point.place point.now) ≡ true → Smallest (cuts_of self.now) (P.Point.place point.now) result }
     {
         let node = self.nodes[b];
         match node.cut {
@@ -38,7 +38,7 @@ impl<'a, R: Record> BoxTable<'a, R> {
 
     // The smallest box that has the point: it is not cut. A point has exactly one.
     pub fn smallest<P: Point>(&self, point: &P) -> usize
-        ensures { Stands R.Point R.Record self.now → Smallest (cuts_of self.now) (P.Point.place point.now) result }
+        ensures { Stands R.Point R.Record.own self.now → Smallest (cuts_of self.now) (P.Point.place point.now) result }
     {
         self.descend(point, 0)
     }

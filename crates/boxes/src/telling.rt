@@ -26,7 +26,7 @@ impl<'a, R: Record> BoxTable<'a, R> {
     // The cut of box b, if it is cut.
     fn cut_of(&self, b: usize) -> Option<CutReport>
         requires { b < 2 * self.now.count + 1 }
-        ensures { Stands R.Point R.Record self.now → CutTold (cuts_of self.now) b result }
+        ensures { Stands R.Point R.Record.own self.now → CutTold (cuts_of self.now) b result }
     {
         let node = self.nodes[b];
         match node.cut {
@@ -37,7 +37,7 @@ impl<'a, R: Record> BoxTable<'a, R> {
 
     // What the box of number b tells, if there is one.
     pub fn tell(&self, b: usize) -> Result<BoxReport, NoBox>
-        ensures { Stands R.Point R.Record self.now → MatchResult result (λ t. Reports (entries_of R.Point R.Record self.now) (cuts_of self.now) b t) (λ _. boxes_after (cuts_of self.now) ≤ b) }
+        ensures { Stands R.Point R.Record.own self.now → MatchResult result (λ t. Reports (entries_of R.Point R.Record.own self.now) (cuts_of self.now) b t) (λ _. boxes_after (cuts_of self.now) ≤ b) }
     {
         if b >= 2 * self.count + 1 {
             return Err(NoBox);

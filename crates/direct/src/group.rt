@@ -22,7 +22,7 @@ pub struct Settled {
 
 // Rounds, until one moves nothing or the most were made.
 fn settle<R: Record>(recording: &Recording<R>, groups: &mut [Group]) -> Settled
-    ensures rounds { Rounds (recorded R.Point R.Record recording.now) (places R.Point.axes groups.old) result.rounds result.settled (places R.Point.axes groups.new) }
+    ensures rounds { Rounds (recorded R.Point R.Record.own recording.now) (places R.Point.axes groups.old) result.rounds result.settled (places R.Point.axes groups.new) }
     ensures most { result.rounds ≤ 100 }
     ensures ends { (result.settled ≡ true) ⊎ (result.rounds ≡ 100) }
     ensures flat { Flat R.Point.axes groups.new }
@@ -44,12 +44,12 @@ fn settle<R: Record>(recording: &Recording<R>, groups: &mut [Group]) -> Settled
 // Groups the records of the recording: rounds from the centers that the groups have, until one moves nothing or the most were
 // made; then the weight and the sums of every group, for the centers as they stand at the end.
 pub fn group<R: Record>(recording: &Recording<R>, groups: &mut [Group]) -> Settled
-    ensures rounds { Rounds (recorded R.Point R.Record recording.now) (places R.Point.axes groups.old) result.rounds result.settled (places R.Point.axes groups.new) }
+    ensures rounds { Rounds (recorded R.Point R.Record.own recording.now) (places R.Point.axes groups.old) result.rounds result.settled (places R.Point.axes groups.new) }
     ensures most { result.rounds ≤ 100 }
     ensures ends { (result.settled ≡ true) ⊎ (result.rounds ≡ 100) }
-    ensures centers { places R.Point.axes groups.new ≡ settled_centers (recorded R.Point R.Record recording.now) 100 (places R.Point.axes groups.old) }
+    ensures centers { places R.Point.axes groups.new ≡ settled_centers (recorded R.Point R.Record.own recording.now) 100 (places R.Point.axes groups.old) }
     ensures flat { Flat R.Point.axes groups.new }
-    ensures tallied { Tallied (recorded R.Point R.Record recording.now) (places R.Point.axes groups.new) groups.new }
+    ensures tallied { Tallied (recorded R.Point R.Record.own recording.now) (places R.Point.axes groups.new) groups.new }
 {
     let settled = settle(recording, groups);
     tally(recording, groups);

@@ -51,7 +51,7 @@ fn clear(groups: &mut [Group])
 // Puts every record into the group of its nearest center.
 fn assign<R: Record>(recording: &Recording<R>, groups: &mut [Group])
     requires { Clear groups.old }
-    ensures tallied { Tallied (recorded R.Point R.Record recording.now) (places R.Point.axes groups.old) groups.new }
+    ensures tallied { Tallied (recorded R.Point R.Record.own recording.now) (places R.Point.axes groups.old) groups.new }
     ensures centers { centers groups.new ≡ centers groups.old }
 {
     let records = recording.records();
@@ -64,7 +64,7 @@ fn assign<R: Record>(recording: &Recording<R>, groups: &mut [Group])
 
 // Every group's weight and sums become those of the records that its center is the nearest of.
 pub fn tally<R: Record>(recording: &Recording<R>, groups: &mut [Group])
-    ensures tallied { Tallied (recorded R.Point R.Record recording.now) (places R.Point.axes groups.old) groups.new }
+    ensures tallied { Tallied (recorded R.Point R.Record.own recording.now) (places R.Point.axes groups.old) groups.new }
     ensures centers { centers groups.new ≡ centers groups.old }
 {
     clear(groups);

@@ -26,7 +26,7 @@ fn run_kind<R: Record + Row, C: CenterRow>(
     requires kind { is_centers C.Row.kind ≡ true }
     requires records { length records.old ≡ 4096 }
     requires rows { length rows.old ≡ 4096 }
-    ensures { KindAnswers R.Point R.Record R.Row.kind C.Row.kind R.Row.fields C.Row.fields (bytes_of recording.entry) (bytes_of centers.entry) result }
+    ensures { KindAnswers R.Point R.Record.own R.Row.kind C.Row.kind R.Row.fields C.Row.fields (bytes_of recording.entry) (bytes_of centers.entry) result }
 {
     let n = load(1, recording, records)?;
     let m = load(2, centers, rows)?;

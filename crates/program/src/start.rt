@@ -33,7 +33,7 @@ pub(crate) fn group_rows<R: Record, C: CenterRow>(records: &[R], rows: &[C]) -> 
     requires some { 0 < length records.now }
     requires few { length records.now ≤ 4096 }
     requires centers { length rows.now ≤ 32 }
-    ensures { GroupedFrom C.Row.kind R.Point.axes (entries R.Point R.Record records.now) (map (start_at R.Point.axes C.Row.fields) rows.now) result }
+    ensures { GroupedFrom C.Row.kind R.Point.axes (entries R.Point R.Record.own records.now) (map (start_at R.Point.axes C.Row.fields) rows.now) result }
 {
     let count = rows.len();
     let mut groups = [EMPTY; 32];

@@ -34,7 +34,7 @@ fn give_box<R>(table: &BoxTable<R>, b: usize, k: u8, out: &mut [u8])
 fn look_at_box<R: Record>(table: &BoxTable<R>, b: usize, candidates: &Candidates, out: &mut [u8])
     requires there { b < boxes_after (cuts_of table.now) }
     requires long { length out.old ≡ length table.now.recording.records.now }
-    ensures { Covered (among R.Point.axes candidates.now) (listed candidates.now) (picked (entries_of R.Point R.Record table.now) (run_of table.now b)) → Written (chosen_by (among R.Point.axes candidates.now) (entries_of R.Point R.Record table.now)) (run_of table.now b) out.old out.new }
+    ensures { Covered (among R.Point.axes candidates.now) (listed candidates.now) (picked (entries_of R.Point R.Record.own table.now) (run_of table.now b)) → Written (chosen_by (among R.Point.axes candidates.now) (entries_of R.Point R.Record.own table.now)) (run_of table.now b) out.old out.new }
 {
     let recording = table.recording();
     let records = recording.records();
@@ -55,7 +55,7 @@ fn assign_box<R: Record, T: Rule>(
 )
     requires there { b < boxes_after (cuts_of table.now) }
     requires long { length out.old ≡ length table.now.recording.records.now }
-    ensures { Stands R.Point R.Record table.now → Covered (among R.Point.axes candidates.now) (listed candidates.now) (contents (cuts_of table.now) b (entries_of R.Point R.Record table.now)) → AssignedIn (among R.Point.axes candidates.now) (entries_of R.Point R.Record table.now) (cuts_of table.now) b out.old out.new }
+    ensures { Stands R.Point R.Record.own table.now → Covered (among R.Point.axes candidates.now) (listed candidates.now) (contents (cuts_of table.now) b (entries_of R.Point R.Record.own table.now)) → AssignedIn (among R.Point.axes candidates.now) (entries_of R.Point R.Record.own table.now) (cuts_of table.now) b out.old out.new }
 {
     let left = prune_box(rule, table, b, candidates);
     let node = table.node(b);
@@ -79,7 +79,7 @@ pub fn assign<R: Record, T: Rule>(
     centers: &Centers,
     out: &mut [u8],
 ) -> Result<(), LengthFault>
-    ensures assigned { Stands R.Point R.Record table.now → OnOk result (Assigned (centers_of R.Point.axes centers.now) (entries_of R.Point R.Record table.now) out.new) }
+    ensures assigned { Stands R.Point R.Record.own table.now → OnOk result (Assigned (centers_of R.Point.axes centers.now) (entries_of R.Point R.Record.own table.now) out.new) }
     ensures refused { MatchResult result (λ _. length out.old ≡ length table.now.recording.records.now) (λ _. (length out.old ≢ length table.now.recording.records.now) × (out.new ≡ out.old)) }
 {
     let recording = table.recording();

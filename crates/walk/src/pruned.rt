@@ -24,7 +24,7 @@ pub(crate) fn prune_box<'a, R: Record, T: Rule>(
     requires { b < boxes_after (cuts_of table.now) }
     ensures among { among R.Point.axes result ≡ among R.Point.axes candidates.now }
     ensures left { Left (T.Rule.prunes rule.now) (lows R.Point.axes (node_at table.now.nodes b).bounds) (highs R.Point.axes (node_at table.now.nodes b).bounds) (among R.Point.axes candidates.now) (listed candidates.now) (listed result) }
-    ensures covers { Stands R.Point R.Record table.now → Covered (among R.Point.axes candidates.now) (listed candidates.now) (contents (cuts_of table.now) b (entries_of R.Point R.Record table.now)) → Covered (among R.Point.axes candidates.now) (listed result) (contents (cuts_of table.now) b (entries_of R.Point R.Record table.now)) }
+    ensures covers { Stands R.Point R.Record.own table.now → Covered (among R.Point.axes candidates.now) (listed candidates.now) (contents (cuts_of table.now) b (entries_of R.Point R.Record.own table.now)) → Covered (among R.Point.axes candidates.now) (listed result) (contents (cuts_of table.now) b (entries_of R.Point R.Record.own table.now)) }
 {
     let node = table.node(b);
     prune(rule, R::axis_count(), &node.bounds, candidates)

@@ -25,7 +25,7 @@ use pruning::rule::Rule;
 // Gives each record of box b to the nearest of the candidates.
 fn read_box<R: Record>(table: &BoxTable<R>, b: usize, candidates: &Candidates, out: &mut Tally)
     requires { b < boxes_after (cuts_of table.now) }
-    ensures grown { Covered (among R.Point.axes candidates.now) (listed candidates.now) (picked (entries_of R.Point R.Record table.now) (run_of table.now b)) → Grown (among R.Point.axes candidates.now) (picked (entries_of R.Point R.Record table.now) (run_of table.now b)) out.old.groups out.new.groups }
+    ensures grown { Covered (among R.Point.axes candidates.now) (listed candidates.now) (picked (entries_of R.Point R.Record.own table.now) (run_of table.now b)) → Grown (among R.Point.axes candidates.now) (picked (entries_of R.Point R.Record.own table.now) (run_of table.now b)) out.old.groups out.new.groups }
     ensures distances { out.new.distances ≡ (out.old.distances + length (run_of table.now b) * length (listed candidates.now)) % 2 ^ 64 }
     ensures queries { out.new.queries ≡ (out.old.queries + 0) % 2 ^ 64 }
 {
@@ -48,8 +48,8 @@ fn tally_box<R: Record, T: Rule>(
     out: &mut Tally,
 )
     requires { b < boxes_after (cuts_of table.now) }
-    ensures grown { Stands R.Point R.Record table.now → Covered (among R.Point.axes candidates.now) (listed candidates.now) (contents (cuts_of table.now) b (entries_of R.Point R.Record table.now)) → Grown (among R.Point.axes candidates.now) (contents (cuts_of table.now) b (entries_of R.Point R.Record table.now)) out.old.groups out.new.groups }
-    ensures counted { Stands R.Point R.Record table.now → Counted (T.Rule.prunes rule.now) R.Point.axes (entries_of R.Point R.Record table.now) (among R.Point.axes candidates.now) (cuts_of table.now) b (listed candidates.now) out.old out.new }
+    ensures grown { Stands R.Point R.Record.own table.now → Covered (among R.Point.axes candidates.now) (listed candidates.now) (contents (cuts_of table.now) b (entries_of R.Point R.Record.own table.now)) → Grown (among R.Point.axes candidates.now) (contents (cuts_of table.now) b (entries_of R.Point R.Record.own table.now)) out.old.groups out.new.groups }
+    ensures counted { Stands R.Point R.Record.own table.now → Counted (T.Rule.prunes rule.now) R.Point.axes (entries_of R.Point R.Record.own table.now) (among R.Point.axes candidates.now) (cuts_of table.now) b (listed candidates.now) out.old out.new }
 {
     let left = prune_box(rule, table, b, candidates);
     let node = table.node(b);
@@ -70,7 +70,7 @@ fn tally_box<R: Record, T: Rule>(
 // Gives each box or record of the recording to the center that the record itself would choose, and tells what every center gets, what
 // that costs, and what it took to find out.
 pub fn survey_groups<R: Record, T: Rule>(rule: &T, table: &BoxTable<R>, centers: &Centers) -> Survey
-    ensures { Stands R.Point R.Record table.now → Surveyed (T.Rule.prunes rule.now) R.Point.axes (entries_of R.Point R.Record table.now) (cuts_of table.now) centers.now result }
+    ensures { Stands R.Point R.Record.own table.now → Surveyed (T.Rule.prunes rule.now) R.Point.axes (entries_of R.Point R.Record.own table.now) (cuts_of table.now) centers.now result }
 {
     let mut found = nothing();
     let all = Candidates::all(centers);

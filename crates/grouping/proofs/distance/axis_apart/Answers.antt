@@ -5,8 +5,8 @@ use Rattle.numbers.proofs.Ring.{square_low}
 use Rattle.grouping.proofs.Distances.{apart_high, apart_fits}
 use Rattle.grouping.proofs.distance.axis_apart.Goals as goal
 
-pub overflow-mul-result : goal.overflow-mul-result
-overflow-mul-result g c =
+pub overflow_mul-result : goal.overflow_mul-result
+overflow_mul-result g c =
     let x = c.axis.result in
     let y = c.axis-2.result in
     let fx : SFits w16 x = search rules in

@@ -4,7 +4,7 @@ use Rattle.grouping.specs.Advances.{Sent}
 use Rattle.grouping.specs.Groups.{group_at}
 use Rattle.grouping.proofs.Advancing.{advanced_none, advanced_same, advanced_other, advanced_all}
 use Rattle.grouping.proofs.moved.move_centers.Goals as goal
-use Rattle.grouping.proofs.moved.move_centers.Goals.{then-not-same-place, else-not-same-place}
+use Rattle.grouping.proofs.moved.move_centers.Goals.{then-not-same_place, else-not-same_place}
 
 pub loop-k-init : goal.loop-k-init
 loop-k-init g c = advanced_none g.R.Point.axes c.args.groups.now
@@ -18,9 +18,9 @@ loop-k-preserved g c =
     let lh : k < length hs = omega arith in
     let h : Group = record { center = c.moved-to.result; weight = (group_at hs k).weight; sums = (group_at hs k).sums } in
     let sent : Sent axes (group_at hs k) h = record { goes = c.moved-to.ensures.goes; flat = c.moved-to.ensures.flat; weight = refl; sums = refl } in
-    elim c.if-not-same-place.branch [
-      | then-not-same-place w ↦ advanced_other axes k gs hs c.loop-k.changed h c.loop-k-test.true lh c.loop-k.invariant sent c.if-not-same-place.changed w.changed-is (c.same-place.ensures.other w.if-not-same-place.true)
-      | else-not-same-place w ↦ advanced_same axes k gs hs c.loop-k.changed h c.loop-k-test.true lh c.loop-k.invariant sent c.if-not-same-place.changed w.changed-is (c.same-place.ensures.same w.if-not-same-place.false)
+    elim c.if-not-same_place.branch [
+      | then-not-same_place w ↦ advanced_other axes k gs hs c.loop-k.changed h c.loop-k-test.true lh c.loop-k.invariant sent c.if-not-same_place.changed w.changed-is (c.same_place.ensures.other w.if-not-same_place.true)
+      | else-not-same_place w ↦ advanced_same axes k gs hs c.loop-k.changed h c.loop-k-test.true lh c.loop-k.invariant sent c.if-not-same_place.changed w.changed-is (c.same_place.ensures.same w.if-not-same_place.false)
     ]
 
 pub returns : goal.returns

@@ -14,8 +14,8 @@ loop-i-init g c =
     let p = g.R.Point.place c.args.r.now in
     let gs = c.args.groups.now in
     let some : 0 < length gs = search rules in
-    let fits : SFits w64 c.squared-distance-least.result = search rules in
-    (to_z-of_z w64 _ fits ∙ c.squared-distance-least.ensures.is ∙ ap (dist p) (sym (center_at g.R.Point.axes gs 0 some)), leads_first (places g.R.Point.axes gs) p)
+    let fits : SFits w64 c.squared_distance-least.result = search rules in
+    (to_z-of_z w64 _ fits ∙ c.squared_distance-least.ensures.is ∙ ap (dist p) (sym (center_at g.R.Point.axes gs 0 some)), leads_first (places g.R.Point.axes gs) p)
 
 pub loop-i-preserved : goal.loop-i-preserved
 loop-i-preserved g c =
@@ -24,11 +24,11 @@ loop-i-preserved g c =
     let cs = places g.R.Point.axes gs in
     let i = c.loop-i.i in
     let b = c.loop-i.best in
-    let fits : SFits w64 c.squared-distance-d.result = search rules in
-    let e : c.squared-distance-d.result ≡ dist p (center cs i) = c.squared-distance-d.ensures.is ∙ ap (dist p) (sym (center_at g.R.Point.axes gs i c.loop-i-test.true)) in
+    let fits : SFits w64 c.squared_distance-d.result = search rules in
+    let e : c.squared_distance-d.result ≡ dist p (center cs i) = c.squared_distance-d.ensures.is ∙ ap (dist p) (sym (center_at g.R.Point.axes gs i c.loop-i-test.true)) in
     elim c.if-d-least.branch [
-      | then-d-least w ↦ turn_takes cs p i b c.squared-distance-d.result _ fits e c.loop-i.invariant.0 c.loop-i.invariant.1 c.if-d-least.best _ w.if-d-least.true w.best-is w.least-is
-      | else-d-least w ↦ turn_keeps cs p i b c.squared-distance-d.result _ fits e c.loop-i.invariant.0 c.loop-i.invariant.1 c.if-d-least.best _ w.if-d-least.false w.best-is w.least-is
+      | then-d-least w ↦ turn_takes cs p i b c.squared_distance-d.result _ fits e c.loop-i.invariant.0 c.loop-i.invariant.1 c.if-d-least.best _ w.if-d-least.true w.best-is w.least-is
+      | else-d-least w ↦ turn_keeps cs p i b c.squared_distance-d.result _ fits e c.loop-i.invariant.0 c.loop-i.invariant.1 c.if-d-least.best _ w.if-d-least.false w.best-is w.least-is
     ]
 
 pub returns : goal.returns

@@ -23,36 +23,36 @@ within : (c : In-Name) → c.loop-k.k < length c.loop-k.at
 within c = omega (arith, (few c.args.kind).1, below c, c.loop-k.invariant.2)
 
 -- the column that is found has the name that is read
-named : (c : In-ok-column) → c.in-Name.bytes.now ≡ name_at c.args.kind c.in-ok-column.column
-named c = c.in-ok-read.ensures ∙ ap text_of (sym c.in-ok-column.ensures.1)
+named : (c : In-ok-column) → c.in-Name.bytes.now ≡ name_at c.args.kind c.in_ok-column.column
+named c = c.in_ok-read.ensures ∙ ap text_of (sym c.in_ok-column.ensures.1)
 
-pub returns-then-fields-left-n : goal.returns-then-fields-left-n
-returns-then-fields-left-n c =
+pub returns-then-fields_left-n : goal.returns-then-fields_left-n
+returns-then-fields_left-n c =
     record {
-      names = λ order each is. c.if-fields-left-n.true (c.fields-left.ensures ∙ counted _ _ order each is ∙ sym (ap length c.columns-n.ensures));
+      names = λ order each is. c.if-fields_left-n.true (c.fields_left.ensures ∙ counted _ _ order each is ∙ sym (ap length c.columns-n.ensures));
       rest = refl;
       line = refl;
     }
 
 pub unreachable-requires : goal.unreachable-requires
-unreachable-requires c = some_left _ c.loop-k.k (omega (arith, c.loop-k-test.true, c.if-fields-left-n.false, c.fields-left.ensures)) (c.loop-k.invariant.1 ∙ c.in-default.ensures.0)
+unreachable-requires c = some_left _ c.loop-k.k (omega (arith, c.loop-k-test.true, c.if-fields_left-n.false, c.fields_left.ensures)) (c.loop-k.invariant.1 ∙ c.in_default.ensures.0)
 
-pub returns-in-err-read : goal.returns-in-err-read
-returns-in-err-read c =
-    let state = (goal.at.returns-in-err-read c).In-Name in
+pub returns-in_err-read : goal.returns-in_err-read
+returns-in_err-read c =
+    let state = (goal.at.returns-in_err-read c).In-Name in
     let step = taken state in
     record {
-      names = subst (NamesRead _ _) (sym c.from-residual.ensures) (no_name _ _ c.loop-k.k (below state) _ step.is c.in-err-read.ensures);
+      names = subst (NamesRead _ _) (sym c.from_residual.ensures) (no_name _ _ c.loop-k.k (below state) _ step.is c.in_err-read.ensures);
       rest = step.rest;
       line = step.line;
     }
 
-pub returns-in-err-column : goal.returns-in-err-column
-returns-in-err-column c =
-    let state = (goal.at.returns-in-err-column c).In-Name in
+pub returns-in_err-column : goal.returns-in_err-column
+returns-in_err-column c =
+    let state = (goal.at.returns-in_err-column c).In-Name in
     let step = taken state in
     record {
-      names = subst (NamesRead _ _) (sym c.from-residual-in-err-column.ensures) (no_column _ _ c.loop-k.k (below state) _ (step.is ∙ c.in-ok-read.ensures) c.in-err-column.ensures);
+      names = subst (NamesRead _ _) (sym c.from_residual-in_err-column.ensures) (no_column _ _ c.loop-k.k (below state) _ (step.is ∙ c.in_ok-read.ensures) c.in_err-column.ensures);
       rest = step.rest;
       line = step.line;
     }
@@ -62,7 +62,7 @@ returns-then-contains c =
     let state = (goal.at.returns-then-contains c).In-Name in
     let step = taken state in
     record {
-      names = name_twice _ _ c.loop-k.k (below state) c.loop-k.at c.in-ok-column.column c.loop-k.invariant.0 (within state) c.in-ok-column.ensures.0 (step.is ∙ named (goal.at.returns-then-contains c).In-ok-column)
+      names = name_twice _ _ c.loop-k.k (below state) c.loop-k.at c.in_ok-column.column c.loop-k.invariant.0 (within state) c.in_ok-column.ensures.0 (step.is ∙ named (goal.at.returns-then-contains c).In-ok-column)
           ((contains_decides eqb Decides-eqb _ _ _ c.contains.ensures.cases).0 c.if-contains.true);
       rest = step.rest;
       line = step.line;
@@ -72,7 +72,7 @@ pub loop-k-preserved : goal.loop-k-preserved
 loop-k-preserved c =
     let state = (goal.at.loop-k-preserved c).In-Name in
     let step = taken state in (
-      one_named _ _ _ c.loop-k.at c.in-ok-column.column c.loop-k.invariant.0 (within state) c.in-ok-column.ensures.0 (step.is ∙ named (goal.at.loop-k-preserved c).In-ok-column)
+      one_named _ _ _ c.loop-k.at c.in_ok-column.column c.loop-k.invariant.0 (within state) c.in_ok-column.ensures.0 (step.is ∙ named (goal.at.loop-k-preserved c).In-ok-column)
           (λ i l e. both_ways _ c.if-contains.false ((contains_decides eqb Decides-eqb _ _ _ c.contains.ensures.cases).1 (stands_among c.loop-k.at c.loop-k.k _ i (omega (arith, within state)) l e))),
       step.left,
       length-set _ _ _ ∙ c.loop-k.invariant.2,
@@ -86,7 +86,7 @@ returns c =
     let n = ap length c.columns-n.ensures in
     let all : c.loop-k.k ≡ width c.args.kind = omega (arith, c.loop-k-test.false, n) in
     record {
-      names = (refl, all_named _ fields c.loop-k.at (subst (λ k. NamedSofar c.args.kind fields k c.loop-k.at) all c.loop-k.invariant.0) (omega (arith, c.if-fields-left-n.false, c.fields-left.ensures, n)) c.loop-k.invariant.2);
+      names = (refl, all_named _ fields c.loop-k.at (subst (λ k. NamedSofar c.args.kind fields k c.loop-k.at) all c.loop-k.invariant.0) (omega (arith, c.if-fields_left-n.false, c.fields_left.ensures, n)) c.loop-k.invariant.2);
       rest = c.loop-k.invariant.3;
       line = c.loop-k.invariant.4;
     }

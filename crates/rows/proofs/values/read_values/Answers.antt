@@ -25,19 +25,19 @@ module _ (c : In-Value) where
   column = get_or-take _ c.args.order.now.at _ 0 below
 
 pub unreachable-requires : goal.unreachable-requires
-unreachable-requires c = some_left _ c.loop-k.k (omega (arith, c.loop-k-test.true, c.if-fields-left-columns.false, c.fields-left.ensures)) (c.loop-k.invariant.1 ∙ c.in-default.ensures.0)
+unreachable-requires c = some_left _ c.loop-k.k (omega (arith, c.loop-k-test.true, c.if-fields_left-columns.false, c.fields_left.ensures)) (c.loop-k.invariant.1 ∙ c.in_default.ensures.0)
 
-pub returns-in-err-values : goal.returns-in-err-values
-returns-in-err-values c =
-    let p = err_from_is_err_and c.from-residual.result c.from-residual.ensures.1 in
-    let state = (goal.at.returns-in-err-values c).In-Value in
+pub returns-in_err-values : goal.returns-in_err-values
+returns-in_err-values c =
+    let p = err_from_is_err_and c.from_residual.result c.from_residual.ensures.1 in
+    let state = (goal.at.returns-in_err-values c).In-Value in
     let step = taken state in
     let order = c.args.order.now in
     record {
       values = rw (p.1, p.2)
-          (cell_wrong order.kind (columns_in order) _ _ c.loop-k.k _ _ _ _ _ c.read-at.ensures c.in-err-values.was
+          (cell_wrong order.kind (columns_in order) _ _ c.loop-k.k _ _ _ _ _ c.read_at.ensures c.in_err-values.was
           (range_read order.kind _ _ _ _ c.columns-columns.ensures (sym (column state)) ((order_once order).known c.loop-k.k (below state)))
-          step.is (omega (arith, (lent state).column_is, c.loop-k.invariant.3)) (below state) (omega (arith, c.if-fields-left-columns.false, c.fields-left.ensures, ap length c.columns-columns.ensures))
+          step.is (omega (arith, (lent state).column_is, c.loop-k.invariant.3)) (below state) (omega (arith, c.if-fields_left-columns.false, c.fields_left.ensures, ap length c.columns-columns.ensures))
           (right_before order.kind (columns_in order) (fields_left c.args.reader.now) c.loop-k.k c.loop-k.values c.loop-k.invariant.0));
       rest = step.rest;
       line = step.line;
@@ -49,8 +49,8 @@ loop-k-preserved c =
     let step = taken state in
     let order = c.args.order.now in
     let each = order_once order in
-    let right = cell_right _ _ _ _ _ _ _ c.read-at.ensures c.in-ok-values.was (range_read order.kind _ _ _ _ c.columns-columns.ensures (sym (column state)) (each.known c.loop-k.k (below state))) step.is in (
-      subst (λ d. ReadSofar order.kind (columns_in order) (fields_left c.args.reader.now) (c.loop-k.k + 1) (set c.loop-k.values d (to_z w32 (of_z w32 c.in-ok-values.field-0)))) (column state)
+    let right = cell_right _ _ _ _ _ _ _ c.read_at.ensures c.in_ok-values.was (range_read order.kind _ _ _ _ c.columns-columns.ensures (sym (column state)) (each.known c.loop-k.k (below state))) step.is in (
+      subst (λ d. ReadSofar order.kind (columns_in order) (fields_left c.args.reader.now) (c.loop-k.k + 1) (set c.loop-k.values d (to_z w32 (of_z w32 c.in_ok-values.field-0)))) (column state)
           (one_read order.kind (columns_in order) _ c.loop-k.k _ _ each (below state) c.loop-k.invariant.2 c.loop-k.invariant.0 right.0 right.1),
       step.left,
       length-set _ _ _ ∙ c.loop-k.invariant.2,
@@ -68,7 +68,7 @@ returns c =
     let all : c.loop-k.k ≡ width order.kind = omega (arith, c.loop-k-test.false, n) in
     let read = subst (λ k. ReadSofar order.kind (columns_in order) fields k c.loop-k.values) all c.loop-k.invariant.0 in
     record {
-      values = (all_cells order.kind (columns_in order) fields c.loop-k.values each read (omega (arith, c.if-fields-left-columns.false, c.fields-left.ensures, n)), all_fit order.kind (columns_in order) fields c.loop-k.values each read c.loop-k.invariant.2);
+      values = (all_cells order.kind (columns_in order) fields c.loop-k.values each read (omega (arith, c.if-fields_left-columns.false, c.fields_left.ensures, n)), all_fit order.kind (columns_in order) fields c.loop-k.values each read c.loop-k.invariant.2);
       rest = c.loop-k.invariant.4;
       line = c.loop-k.invariant.5;
     }
