@@ -45,8 +45,8 @@ pub nothing : (kind : FileKind) (bytes : List ℕ) → bytes ≡ [] → Named ki
 nothing kind bytes e n = has_end kind bytes (λ k l _. omega (arith, ap length e)) n
 
 -- the fields of a line are its text
-pub line_of : (bytes text after : List ℕ) (fields : List (List ℕ)) → bytes ≡ text ++ 10 ∷ after → fields_of text ≡ fields → bytes ≡ line_of fields ++ after
-line_of bytes text after fields split e = split ∙ ap (λ t. t ++ 10 ∷ after) (sym (commas_fields text) ∙ ap commas e) ∙ sym (line_first fields after)
+pub line_written : (bytes text after : List ℕ) (fields : List (List ℕ)) → bytes ≡ text ++ 10 ∷ after → fields_of text ≡ fields → bytes ≡ line_of fields ++ after
+line_written bytes text after fields split e = split ∙ ap (λ t. t ++ 10 ∷ after) (sym (commas_fields text) ∙ ap commas e) ∙ sym (line_first fields after)
 
 -- what the reader says of the first line
 pub not_ended : (kind : FileKind) (r s : Reader) (next : NextLine) → LineStep r next s → (next ≡ Ended → ⊥) → Named kind (next_bytes r) → ⊥
@@ -55,7 +55,7 @@ not_ended kind r s Unended h other n = has_end kind (next_bytes r) h.1 n
 not_ended kind r s Missing h other n = nothing kind (next_bytes r) h.0 n
 
 pub header_read : (kind : FileKind) (r s : Reader) (left : List ℕ) (o : Option Order) → LineEnds r s → NamesRead kind (fields_left s) o → left ≡ next_bytes s → HeaderRead kind (next_bytes r) left o
-header_read kind r s left (Some o) ends h same = (h.0, line_of (next_bytes r) ends.text left (names_in kind (columns_in o)) (ends.split ∙ ap (λ t. ends.text ++ 10 ∷ t) (sym same)) (sym ends.fields ∙ h.1))
+header_read kind r s left (Some o) ends h same = (h.0, line_written (next_bytes r) ends.text left (names_in kind (columns_in o)) (ends.split ∙ ap (λ t. ends.text ++ 10 ∷ t) (sym same)) (sym ends.fields ∙ h.1))
 header_read kind r s left None ends h same = λ n. h n.0 n.2 (ends.fields ∙ first_line kind (next_bytes r) ends.text (next_bytes s) ends.split ends.whole n)
 
 pub names_decide : (kind : FileKind) (bytes left : List ℕ) (o : Option Order) → HeaderRead kind bytes left o → Decides (is_some o) (Named kind bytes)

@@ -23,7 +23,7 @@ use Rattle.faults.specs.declared.file.FileFault.TheVariants.{Row}
 use Rattle.files.specs.Format.{Ending, LineWrong, over, wrong, line_of, lines_of, most}
 use Rattle.files.specs.Reads.{Filled, LineReadAt, RoomLeft, RowsRead}
 use Rattle.files.specs.Rows.{nearests_from, nearests}
-use Rattle.files.proofs.Headers.{line_first, line_of}
+use Rattle.files.proofs.Headers.{line_first, line_written}
 
 length_nearests : (k : ℕ) (columns : List Column) (values : List ℤ) → length (nearests_from k columns values) ≡ length columns
 length_nearests k [] values = refl
@@ -91,7 +91,7 @@ module _ (kind other : FileKind) (order : List ℕ) (r s : Reader) (result : Res
   line_right values row left e made after =
       let h = said (Ok values) e in
       let is : row ≡ row_in kind values = made ∙ row_kept kind values h.1 in
-      (line_of (next_bytes r) ends.text left (cells_in order row) (ends.split ∙ ap (λ t. ends.text ++ 10 ∷ t) (sym after)) (h.0 ∙ ap (cells_in order) (sym is)), subst (Fits kind) (sym is) h.1)
+      (line_written (next_bytes r) ends.text left (cells_in order row) (ends.split ∙ ap (λ t. ends.text ++ 10 ∷ t) (sym after)) (h.0 ∙ ap (cells_in order) (sym is)), subst (Fits kind) (sym is) h.1)
 
 -- what stands after the last row that was read is not empty
 pub some_left : (rest : List ℕ) (ended : Bool) → Decides ended (rest ≡ []) → ended ≡ false → 0 < length rest

@@ -35,8 +35,8 @@ fn check_room(kind: FileKind, n: usize, room: usize, line: usize) -> Result<(), 
 
 // The row of the next line.
 fn read_row<R: Row>(reader: &mut Reader<'_>, order: &Order) -> Result<R, RowFault>
-    requires { order.now.kind ≡ kind }
-    ensures row { LineRead kind fields (columns_in order.now) (next_bytes reader.old) (next_bytes reader.new) result }
+    requires { order.now.kind ≡ R.kind }
+    ensures row { LineRead R.kind R.fields (columns_in order.now) (next_bytes reader.old) (next_bytes reader.new) result }
     ensures line { OnOk result (line_number reader.new ≡ line_number reader.old + 1) }
 {
     let NextLine::Ended = reader.next_line() else {
@@ -47,8 +47,8 @@ fn read_row<R: Row>(reader: &mut Reader<'_>, order: &Order) -> Result<R, RowFaul
 
 // The same, where a fault has the number of the line.
 fn read_row_at<R: Row>(reader: &mut Reader<'_>, order: &Order, line: usize) -> Result<R, FileFault>
-    requires { order.now.kind ≡ kind }
-    ensures row { LineReadAt kind fields (columns_in order.now) line (next_bytes reader.old) (next_bytes reader.new) result }
+    requires { order.now.kind ≡ R.kind }
+    ensures row { LineReadAt R.kind R.fields (columns_in order.now) line (next_bytes reader.old) (next_bytes reader.new) result }
     ensures line { OnOk result (line_number reader.new ≡ line_number reader.old + 1) }
 {
     Ok(place_at(read_row(reader, order), line)?)
@@ -60,9 +60,9 @@ fn read_rows<R: Row>(
     order: &Order,
     table: &mut [R],
 ) -> Result<usize, FileFault>
-    requires kind { order.now.kind ≡ kind }
+    requires kind { order.now.kind ≡ R.kind }
     requires line { line_number reader.old ≡ 1 }
-    ensures { RowsRead kind fields (columns_in order.now) (next_bytes reader.old) table.old table.new result }
+    ensures { RowsRead R.kind R.fields (columns_in order.now) (next_bytes reader.old) table.old table.new result }
 {
     let mut n = 0;
     while !reader.at_end() {
@@ -87,7 +87,7 @@ fn no_row(kind: FileKind) -> FileFault
 
 // Reads the names, then the rows.
 fn read_parts<R: Row>(bytes: &[u8], table: &mut [R]) -> Result<usize, FileFault>
-    ensures { FileRead kind fields bytes.now table.old table.new result }
+    ensures { FileRead R.kind R.fields bytes.now table.old table.new result }
 {
     let mut reader = Reader::new(bytes);
     let Some(order) = read_header(&mut reader, R::kind()) else {
@@ -104,8 +104,8 @@ fn read_parts<R: Row>(bytes: &[u8], table: &mut [R]) -> Result<usize, FileFault>
 // the limits, is accepted with the rows that it spells. Any other is refused with its first fault: then the rows before the fault are
 // written. The rows of the table behind those that are written stay as they were.
 pub fn read_table<R: Row>(bytes: &[u8], table: &mut [R]) -> Result<usize, FileFault>
-    ensures read { FileRead kind fields bytes.now table.old table.new result }
-    ensures only { NoOther kind fields bytes.now table.old table.new result }
+    ensures read { FileRead R.kind R.fields bytes.now table.old table.new result }
+    ensures only { NoOther R.kind R.fields bytes.now table.old table.new result }
 {
     read_parts(bytes, table)
 }

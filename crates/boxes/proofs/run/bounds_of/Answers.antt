@@ -9,12 +9,12 @@ pub loop-a-preserved : goal.loop-a-preserved
 loop-a-preserved g c =
     let es = picked (entries g.R.Point g.R.Record c.args.records.now) c.args.run.now in
     let a = c.loop-a.a in
-    let low = c.range-on-range.result.least in
-    let high = c.range-on-range.result.greatest in
+    let low = c.range_on-range.result.least in
+    let high = c.range_on-range.result.greatest in
     let fits_low : SFits w16 low = search rules in
     let fits-high : SFits w16 high = search rules in (
-      told_more (λ axis. Lowest axis es) a c.loop-a.least low c.loop-a-test.true fits_low c.range-on-range.ensures.low c.loop-a.invariant.0,
-      told_more (λ axis. Highest axis es) a c.loop-a.greatest high c.loop-a-test.true fits-high c.range-on-range.ensures.high c.loop-a.invariant.1,
+      told_more (λ axis. Lowest axis es) a c.loop-a.least low c.loop-a-test.true fits_low c.range_on-range.ensures.low c.loop-a.invariant.0,
+      told_more (λ axis. Highest axis es) a c.loop-a.greatest high c.loop-a-test.true fits-high c.range_on-range.ensures.high c.loop-a.invariant.1,
     )
 
 pub returns : goal.returns

@@ -8,15 +8,15 @@ use Rattle.boxes.proofs.run.measure.Goals as goal
 
 pub returns-in-Squares : goal.returns-in-Squares
 returns-in-Squares g c =
-    let d = c.squared-distance.result in
+    let d = c.squared_distance.result in
     let p = g.R.Point.place c.args.r.now in
     let n = g.R.Point.axes in
     let zeros = pos 0 ∷ pos 0 ∷ pos 0 ∷ pos 0 ∷ [] in
-    let low = c.squared-distance.ensures.low in
-    let high = c.squared-distance.ensures.high in
+    let low = c.squared_distance.ensures.low in
+    let high = c.squared_distance.ensures.high in
     let same : to_z w64 (of_z w64 d) ≡ d = omega (arith, ints) in
     record {
-      is = same ∙ c.squared-distance.ensures.is ∙ dist_zero p (take n zeros) (omega (arith, g.met.R.Point.sized c.args.r.now, length-take-le n zeros g.met.R.Point.few.1)) (All-take (λ z. z ≡ pos 0) n zeros (refl, (refl, (refl, (refl, tt))))) ∙ ap (λ q. measured q p) (sym c.in-Squares.is);
+      is = same ∙ c.squared_distance.ensures.is ∙ dist_zero p (take n zeros) (omega (arith, g.met.R.Point.sized c.args.r.now, length-take-le n zeros g.met.R.Point.few.1)) (All-take (λ z. z ≡ pos 0) n zeros (refl, (refl, (refl, (refl, tt))))) ∙ ap (λ q. measured q p) (sym c.in-Squares.is);
       low = omega (arith, ints);
       high = omega (arith, ints);
     }

@@ -12,8 +12,8 @@ use Rattle.boxes.proofs.run.total_of.Goals as goal
 pub bounds-records-i : goal.bounds-records-i
 bounds-records-i g c = All-get_or (λ n. n < length c.args.records.now) c.args.run.now c.loop-i.i-index 0 c.loop-i-test.true c.requires.known
 
-pub offset-bounds-records-i : goal.offset-bounds-records-i
-offset-bounds-records-i g c = omega (arith, All-get_or (λ n. n < length c.args.records.now) c.args.run.now c.loop-i.i-index 0 c.loop-i-test.true c.requires.known)
+pub offset_bounds-records-i : goal.offset_bounds-records-i
+offset_bounds-records-i g c = omega (arith, All-get_or (λ n. n < length c.args.records.now) c.args.run.now c.loop-i.i-index 0 c.loop-i-test.true c.requires.known)
 
 pub loop-i-preserved : goal.loop-i-preserved
 loop-i-preserved g c =

@@ -12,4 +12,4 @@ returns c some =
     let fits : SFits w16 c.axis.result = search rules in
     let low = ranged b.least c.args.axis in
     let high = ranged b.greatest c.args.axis in
-    middle_is (number (position_place b.least) c.args.axis) (number (position_place b.greatest) c.args.axis) c.axis.result c.min.result (c.width-at-half.result / 2) fits low.1 high.1 low.0 c.axis.ensures (ap (λ w. w / 2) c.width-at-half.ensures.is) some c.min.ensures.value
+    middle_is (number (position_place b.least) c.args.axis) (number (position_place b.greatest) c.args.axis) c.axis.result c.min.result (c.width_at-half.result / 2) fits low.1 high.1 low.0 c.axis.ensures (ap (λ w. w / 2) c.width_at-half.ensures.is) some c.min.ensures.value

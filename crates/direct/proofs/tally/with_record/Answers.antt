@@ -3,8 +3,8 @@ use Rattle.grouping.specs.Distance.{number}
 use Rattle.direct.proofs.Adding.{added_none, added_more, sum_is, sum_fits}
 use Rattle.direct.proofs.tally.with_record.Goals as goal
 
-pub overflow-add-sums : goal.overflow-add-sums
-overflow-add-sums g c =
+pub overflow_add-sums : goal.overflow_add-sums
+overflow_add-sums g c =
     let a = c.loop-a.a in
     let l = c.loop-a-test.true in
     sum_fits (number c.loop-a.sums a) (number c.args.group.now.sums a) c.moment.result (c.loop-a.invariant.2 a (omega arith)) (c.requires.low a l) (c.requires.high a l) c.moment.ensures.low c.moment.ensures.high

@@ -6,4 +6,4 @@ use Rattle.files.proofs.Headers.{names_decide}
 use Rattle.files.proofs.header.has_names.Goals as goal
 
 pub returns : goal.returns
-returns c = subst (λ b. Decides b (Named c.args.kind c.args.bytes.now)) (sym c.is-some.ensures) (names_decide c.args.kind _ (next_bytes c.read-header.new.reader) c.read-header.result (subst (λ t. HeaderRead c.args.kind t (next_bytes c.read-header.new.reader) c.read-header.result) c.new-reader.ensures.bytes c.read-header.ensures.header))
+returns c = subst (λ b. Decides b (Named c.args.kind c.args.bytes.now)) (sym c.is_some.ensures) (names_decide c.args.kind _ (next_bytes c.read_header.new.reader) c.read_header.result (subst (λ t. HeaderRead c.args.kind t (next_bytes c.read_header.new.reader) c.read_header.result) c.new-reader.ensures.bytes c.read_header.ensures.header))

@@ -3,10 +3,10 @@ use borrow.Author.Differences.{ints}
 use Rattle.pruning.proofs.Axes.{corner_sum, sofar_none, sofar_more, sofar_all}
 use Rattle.pruning.proofs.distance.corner_distance.Goals as goal
 
-pub overflow-add-d : goal.overflow-add-d
-overflow-add-d c =
+pub overflow_add-d : goal.overflow_add-d
+overflow_add-d c =
     let few : c.loop-a.a < 4 = omega arith in
-    omega (arith, ints, c.loop-a.invariant.low, c.loop-a.invariant.high, c.axis-corner-d.ensures.low, c.axis-corner-d.ensures.high)
+    omega (arith, ints, c.loop-a.invariant.low, c.loop-a.invariant.high, c.axis_corner-d.ensures.low, c.axis_corner-d.ensures.high)
 
 pub loop-a-init : goal.loop-a-init
 loop-a-init c = sofar_none corner_sum c.args.bounds.now.least c.args.bounds.now.greatest c.args.leader.now.position c.args.candidate.now.position c.args.c.now.position
@@ -14,9 +14,9 @@ loop-a-init c = sofar_none corner_sum c.args.bounds.now.least c.args.bounds.now.
 pub loop-a-preserved : goal.loop-a-preserved
 loop-a-preserved c =
     let few : c.loop-a.a < 4 = omega arith in
-    let e = c.axis-corner-d.ensures in
+    let e = c.axis_corner-d.ensures in
     let inv = c.loop-a.invariant in
-    sofar_more corner_sum c.args.bounds.now.least c.args.bounds.now.greatest c.args.leader.now.position c.args.candidate.now.position c.args.c.now.position c.loop-a.a _ c.axis-corner-d.result _ few inv e.is e.low e.high (omega (arith, ints))
+    sofar_more corner_sum c.args.bounds.now.least c.args.bounds.now.greatest c.args.leader.now.position c.args.candidate.now.position c.args.c.now.position c.loop-a.a _ c.axis_corner-d.result _ few inv e.is e.low e.high (omega (arith, ints))
 
 pub returns : goal.returns
 returns c =

@@ -3,10 +3,10 @@ use borrow.Author.Differences.{ints}
 use Rattle.pruning.proofs.Axes.{near_sum, sofar_none, sofar_more, sofar_all}
 use Rattle.pruning.proofs.distance.near_distance.Goals as goal
 
-pub overflow-add-d : goal.overflow-add-d
-overflow-add-d c =
+pub overflow_add-d : goal.overflow_add-d
+overflow_add-d c =
     let few : c.loop-a.a < 4 = omega arith in
-    omega (arith, ints, c.loop-a.invariant.low, c.loop-a.invariant.high, c.axis-near-d.ensures.low, c.axis-near-d.ensures.high)
+    omega (arith, ints, c.loop-a.invariant.low, c.loop-a.invariant.high, c.axis_near-d.ensures.low, c.axis_near-d.ensures.high)
 
 pub loop-a-init : goal.loop-a-init
 loop-a-init c = sofar_none near_sum c.args.bounds.now.least c.args.bounds.now.greatest c.args.c.now c.args.c.now c.args.c.now
@@ -14,9 +14,9 @@ loop-a-init c = sofar_none near_sum c.args.bounds.now.least c.args.bounds.now.gr
 pub loop-a-preserved : goal.loop-a-preserved
 loop-a-preserved c =
     let few : c.loop-a.a < 4 = omega arith in
-    let e = c.axis-near-d.ensures in
+    let e = c.axis_near-d.ensures in
     let inv = c.loop-a.invariant in
-    sofar_more near_sum c.args.bounds.now.least c.args.bounds.now.greatest c.args.c.now c.args.c.now c.args.c.now c.loop-a.a _ c.axis-near-d.result _ few inv e.is e.low e.high (omega (arith, ints))
+    sofar_more near_sum c.args.bounds.now.least c.args.bounds.now.greatest c.args.c.now c.args.c.now c.args.c.now c.loop-a.a _ c.axis_near-d.result _ few inv e.is e.low e.high (omega (arith, ints))
 
 pub returns : goal.returns
 returns c =

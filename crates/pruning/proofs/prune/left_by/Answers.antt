@@ -24,21 +24,21 @@ loop-i-preserved g c =
     let tells : test k ≡ c.leaves.result = sym (c.leaves.ensures ∙ ap₂ (λ x y. eqb k l || not (prunes los his l x k y)) c.requires.stands (c.get-candidate.ensures.stands axes)) in
     elim c.if-leaves.branch [
       | then-leaves w ↦
-          simp (w.count_is, w.numbers-is) (
+          simp (w.count-is, w.numbers-is) (
             copy_yes test (listed s) c.loop-i.numbers c.loop-i.i c.loop-i.count k il at c.loop-i.invariant.0 room (tells ∙ w.if-leaves.true),
             omega (arith, c.loop-i.invariant.1),
             simp length-set c.loop-i.invariant.2,
           )
       | else-leaves w ↦
-          simp (w.count_is, w.numbers-is) (
+          simp (w.count-is, w.numbers-is) (
             copy_no test (listed s) c.loop-i.numbers c.loop-i.i c.loop-i.count k il at c.loop-i.invariant.0 (tells ∙ w.if-leaves.false),
             omega (arith, c.loop-i.invariant.1),
             c.loop-i.invariant.2,
           )
     ]
 
-pub invariant-of-result : goal.invariant-of-result
-invariant-of-result g c =
+pub invariant_of-result : goal.invariant_of-result
+invariant_of-result g c =
     let axes = c.args.axes in
     let los = place_of axes c.args.bounds.now.least in
     let his = place_of axes c.args.bounds.now.greatest in

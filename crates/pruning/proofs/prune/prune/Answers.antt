@@ -11,7 +11,7 @@ returns g c =
     let s = c.args.candidates.now in
     let rule = c.args.rule.now in
     record {
-      among = c.left-by.ensures.among;
-      left = c.left-by.ensures.left;
-      covers = prunes_none (g.T.Rule.prunes rule) (g.met.T.Rule.safe rule) (place_of axes b.least) (place_of axes b.greatest) (among axes s) (listed s) (listed c.left-by.result) (centers_sized axes s.centers.now b.least) (candidates_fit axes s).known c.left-by.ensures.left;
+      among = c.left_by.ensures.among;
+      left = c.left_by.ensures.left;
+      covers = prunes_none (g.T.Rule.prunes rule) (g.met.T.Rule.safe rule) (place_of axes b.least) (place_of axes b.greatest) (among axes s) (listed s) (listed c.left_by.result) (centers_sized axes s.centers.now b.least) (candidates_fit axes s).known c.left_by.ensures.left;
     }

@@ -9,7 +9,7 @@ use Rattle.rows.specs.Names.{text_of}
 use Rattle.rows.proofs.Fields.{Stepped, stepped, some_left, name_lent}
 use Rattle.rows.proofs.Named.{NamedSofar, few, one_named, all_named, counted, no_name, no_column, name_twice, stands_among}
 use Rattle.rows.proofs.names.read_names.Goals as goal
-use Rattle.rows.proofs.names.read_names.Goals.{In-Name, In-ok-column}
+use Rattle.rows.proofs.names.read_names.Goals.{In-Name, In_ok-column}
 use Rattle.std.proofs.lemmas.Bool.Decides.{Decides-eqb}
 
 -- the field that a turn takes
@@ -23,7 +23,7 @@ within : (c : In-Name) → c.loop-k.k < length c.loop-k.at
 within c = omega (arith, (few c.args.kind).1, below c, c.loop-k.invariant.2)
 
 -- the column that is found has the name that is read
-named : (c : In-ok-column) → c.in-Name.bytes.now ≡ name_at c.args.kind c.in_ok-column.column
+named : (c : In_ok-column) → c.in-Name.bytes.now ≡ name_at c.args.kind c.in_ok-column.column
 named c = c.in_ok-read.ensures ∙ ap text_of (sym c.in_ok-column.ensures.1)
 
 pub returns-then-fields_left-n : goal.returns-then-fields_left-n
@@ -62,7 +62,7 @@ returns-then-contains c =
     let state = (goal.at.returns-then-contains c).In-Name in
     let step = taken state in
     record {
-      names = name_twice _ _ c.loop-k.k (below state) c.loop-k.at c.in_ok-column.column c.loop-k.invariant.0 (within state) c.in_ok-column.ensures.0 (step.is ∙ named (goal.at.returns-then-contains c).In-ok-column)
+      names = name_twice _ _ c.loop-k.k (below state) c.loop-k.at c.in_ok-column.column c.loop-k.invariant.0 (within state) c.in_ok-column.ensures.0 (step.is ∙ named (goal.at.returns-then-contains c).In_ok-column)
           ((contains_decides eqb Decides-eqb _ _ _ c.contains.ensures.cases).0 c.if-contains.true);
       rest = step.rest;
       line = step.line;
@@ -72,7 +72,7 @@ pub loop-k-preserved : goal.loop-k-preserved
 loop-k-preserved c =
     let state = (goal.at.loop-k-preserved c).In-Name in
     let step = taken state in (
-      one_named _ _ _ c.loop-k.at c.in_ok-column.column c.loop-k.invariant.0 (within state) c.in_ok-column.ensures.0 (step.is ∙ named (goal.at.loop-k-preserved c).In-ok-column)
+      one_named _ _ _ c.loop-k.at c.in_ok-column.column c.loop-k.invariant.0 (within state) c.in_ok-column.ensures.0 (step.is ∙ named (goal.at.loop-k-preserved c).In_ok-column)
           (λ i l e. both_ways _ c.if-contains.false ((contains_decides eqb Decides-eqb _ _ _ c.contains.ensures.cases).1 (stands_among c.loop-k.at c.loop-k.k _ i (omega (arith, within state)) l e))),
       step.left,
       length-set _ _ _ ∙ c.loop-k.invariant.2,

@@ -14,9 +14,9 @@ descend-requires g t c κs within =
     let l = self.links c.args.b c.in-Some.i c.requires c.in-Some.is in
     let r = self.rising c.args.b c.in-Some.i c.requires c.in-Some.is in
     let k = child_range (cut_at (cuts_of self) c.in-Some.i) c.in-Some.i (g.P.Point.place c.args.point.now) in
-    let low : c.args.b < c.child-of-child.result = omega (arith, k.0, c.child-of-child.ensures) in
-    let high : c.child-of-child.result < 2 * self.count + 1 = omega (arith, k.1, c.child-of-child.ensures) in
-    let all : c.child-of-child.result < 255 = omega (arith, self.few) in
+    let low : c.args.b < c.child_of-child.result = omega (arith, k.0, c.child_of-child.ensures) in
+    let high : c.child_of-child.result < 2 * self.count + 1 = omega (arith, k.1, c.child_of-child.ensures) in
+    let all : c.child_of-child.result < 255 = omega (arith, self.few) in
     (search rules, (within.0, (within.1, high)))
 
 pub returns-in-Some : goal.returns-in-Some
@@ -26,4 +26,4 @@ returns-in-Some g t c s h =
     let i = c.in-Some.i in
     let l = self.links c.args.b i c.requires c.in-Some.is in
     let n : i < length (cuts_of self) = omega (arith, l, count_is self) in
-    c.descend.ensures s (ap (λ b. holds (cuts_of self) b p) c.child-of-child.ensures ∙ holds_child (cuts_of self) s.log c.args.b i n (s.cut_by c.args.b i (omega (arith, c.requires, count_is self)) c.in-Some.is) p h)
+    c.descend.ensures s (ap (λ b. holds (cuts_of self) b p) c.child_of-child.ensures ∙ holds_child (cuts_of self) s.log c.args.b i n (s.cut_by c.args.b i (omega (arith, c.requires, count_is self)) c.in-Some.is) p h)

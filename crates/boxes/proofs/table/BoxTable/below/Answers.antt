@@ -4,8 +4,8 @@ use Rattle.boxes.specs.Table.{node_at}
 use Rattle.boxes.proofs.Orders.{run_known}
 use Rattle.boxes.proofs.table.BoxTable.below.Goals as goal
 
-pub count-below-requires : goal.count-below-requires
-count-below-requires g c =
+pub count_below-requires : goal.count_below-requires
+count_below-requires g c =
     let t = c.args.self.now in
     let n = node_at t.nodes c.args.cut.now.parent in
     let r = t.runs c.args.cut.now.parent c.requires in

@@ -12,13 +12,13 @@ pub loop-n-preserved : goal.loop-n-preserved
 loop-n-preserved g c =
     let t = c.args.self.now in
     let mid = c.loop-n.self in
-    let last = c.halve-one.new.self in
-    let e = c.halve-one.ensures in
+    let last = c.halve_one.new.self in
+    let e = c.halve_one.ensures in
     let more : last.count ≡ mid.count + 1 = e.counted ∙ ap (λ b. cond b (mid.count + 1) mid.count) c.loop-n-test.true in (
       λ s.
           let so = c.loop-n.invariant.0 s in
-          let step = subst (λ es. Stepped g.R.Point.axes es (cuts_of mid) c.halve-one.result (cuts_of last)) (ap (recorded g.R.Point g.R.Record) c.loop-n.invariant.1) (e.step so.0) in
-          (e.stands so.0, one_more g.R.Point.axes (entries_of g.R.Point g.R.Record t) (cuts_of t) (cuts_of mid) (cuts_of last) c.loop-n.n so.1 c.halve-one.result step c.loop-n-test.true),
+          let step = subst (λ es. Stepped g.R.Point.axes es (cuts_of mid) c.halve_one.result (cuts_of last)) (ap (recorded g.R.Point g.R.Record) c.loop-n.invariant.1) (e.step so.0) in
+          (e.stands so.0, one_more g.R.Point.axes (entries_of g.R.Point g.R.Record t) (cuts_of t) (cuts_of mid) (cuts_of last) c.loop-n.n so.1 c.halve_one.result step c.loop-n-test.true),
       e.recording ∙ c.loop-n.invariant.1,
       omega (arith, more, c.loop-n.invariant.2),
     )
@@ -27,12 +27,12 @@ pub returns : goal.returns
 returns g c =
     let t = c.args.self.now in
     let mid = c.loop-n.self in
-    let last = c.halve-one.new.self in
-    let e = c.halve-one.ensures in
+    let last = c.halve_one.new.self in
+    let e = c.halve_one.ensures in
     let end = λ (s : Stands g.R.Point g.R.Record t).
     let so = c.loop-n.invariant.0 s in
-    let step = subst (λ es. Stepped g.R.Point.axes es (cuts_of mid) c.halve-one.result (cuts_of last)) (ap (recorded g.R.Point g.R.Record) c.loop-n.invariant.1) (e.step so.0) in
-    no_more g.R.Point.axes (entries_of g.R.Point g.R.Record t) (cuts_of t) (cuts_of mid) (cuts_of last) c.loop-n.n so.1 c.halve-one.result step c.loop-n-test.false in
+    let step = subst (λ es. Stepped g.R.Point.axes es (cuts_of mid) c.halve_one.result (cuts_of last)) (ap (recorded g.R.Point g.R.Record) c.loop-n.invariant.1) (e.step so.0) in
+    no_more g.R.Point.axes (entries_of g.R.Point g.R.Record t) (cuts_of t) (cuts_of mid) (cuts_of last) c.loop-n.n so.1 c.halve_one.result step c.loop-n-test.false in
     record {
       halved = λ s. (end s).0;
       rests = λ s. (end s).1;

@@ -12,6 +12,6 @@ pub returns : goal.returns
 returns g c s largest =
     let t = c.args.self.now in
     let there : c.args.b < boxes_after (cuts_of t) = omega (arith, count_is t, c.requires) in
-    let fits : SFits w16 c.middle-at.result = search rules in
+    let fits : SFits w16 c.middle_at.result = search rules in
     halves g.R.Point.axes (entries_of g.R.Point g.R.Record t) (cuts_of t) t.nodes t.order s (order_long t g.R.Point g.R.Record) (has_runs t g.R.Point g.R.Record) g.met.R.Point.few.1 c.args.b there
-    c.widest-axis-axis.result _ largest (subst (λ n. WidestOf (node_at t.nodes c.args.b).bounds n c.widest-axis-axis.result) c.axis-count.ensures c.widest-axis-axis.ensures) (λ some. to_z-of_z w16 c.middle-at.result fits ∙ c.middle-at.ensures some)
+    c.widest_axis-axis.result _ largest (subst (λ n. WidestOf (node_at t.nodes c.args.b).bounds n c.widest_axis-axis.result) c.axis_count.ensures c.widest_axis-axis.ensures) (λ some. to_z-of_z w16 c.middle_at.result fits ∙ c.middle_at.ensures some)

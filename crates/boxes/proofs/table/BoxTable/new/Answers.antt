@@ -8,8 +8,8 @@ use Rattle.boxes.specs.Tells.{BoundsOf, TalliesOf}
 use Rattle.boxes.proofs.Starts.{in_order, in_order_known, agrees_new}
 use Rattle.boxes.proofs.table.BoxTable.new.Goals as goal
 
-pub uncut-box-root-requires : goal.uncut-box-root-requires
-uncut-box-root-requires g c =
+pub uncut_box-root-requires : goal.uncut_box-root-requires
+uncut_box-root-requires g c =
     let rs = c.records-records.result.now in
     let order = c.numbers-order.result in
     let few : length rs ≤ 4096 = subst (λ xs. length xs ≤ 4096) (sym c.records-records.ensures) c.args.recording.few in
@@ -27,16 +27,16 @@ returns g c =
     let rs = c.records-records.result.now in
     let es = entries g.R.Point g.R.Record rs in
     let order = c.numbers-order.result in
-    let ns = c.boxes-from.result in
-    let root = c.uncut-box-root.result in
+    let ns = c.boxes_from.result in
+    let root = c.uncut_box-root.result in
     let few : length rs ≤ 4096 = subst (λ xs. length xs ≤ 4096) (sym c.records-records.ensures) c.args.recording.few in
     let n : length es ≡ length rs = length-map rs (λ r. entry g.R.Point g.R.Record r) in
     let front : take (length rs - 0) order ≡ take (length es) order = ap (λ m. take m order) (omega arith) in
     record {
       stands = subst (λ xs. Agrees (entries g.R.Point g.R.Record xs) [] ns order) c.records-records.ensures
-          (agrees_new es ns order root c.boxes-from.ensures.root (in_order order c.numbers-order.ensures.long c.numbers-order.ensures.each (length es) (omega arith)) c.uncut-box-root.ensures.from (c.uncut-box-root.ensures.to ∙ sym n) c.uncut-box-root.ensures.cut
-          (subst (λ xs. BoundsOf (picked es xs) root.bounds) front c.uncut-box-root.ensures.bounds)
-          (subst (λ xs. TalliesOf (picked es xs) root.tallies) front c.uncut-box-root.ensures.tallies));
+          (agrees_new es ns order root c.boxes_from.ensures.root (in_order order c.numbers-order.ensures.long c.numbers-order.ensures.each (length es) (omega arith)) c.uncut_box-root.ensures.from (c.uncut_box-root.ensures.to ∙ sym n) c.uncut_box-root.ensures.cut
+          (subst (λ xs. BoundsOf (picked es xs) root.bounds) front c.uncut_box-root.ensures.bounds)
+          (subst (λ xs. TalliesOf (picked es xs) root.tallies) front c.uncut_box-root.ensures.tallies));
       uncut = refl;
       same = refl;
     }

@@ -17,8 +17,8 @@ part-requires g c =
     let few = t.recording.few in
     subst (λ rs. All (λ n. n < length rs) (between from to t.order)) (sym c.records-records.ensures) (run_known t.order _ from to t.known c.requires.1 (omega (arith, few, t.long)))
 
-pub invariant-of-self : goal.invariant-of-self
-invariant-of-self g c =
+pub invariant_of-self : goal.invariant_of-self
+invariant_of-self g c =
     let t = c.args.self.now in
     let from = c.args.from in
     let to = c.args.to in

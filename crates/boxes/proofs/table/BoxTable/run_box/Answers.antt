@@ -4,8 +4,8 @@ use Rattle.std.proofs.lemmas.List.Edits.{length-between}
 use Rattle.boxes.proofs.Orders.{run_known}
 use Rattle.boxes.proofs.table.BoxTable.run_box.Goals as goal
 
-pub uncut-box-requires : goal.uncut-box-requires
-uncut-box-requires g c =
+pub uncut_box-requires : goal.uncut_box-requires
+uncut_box-requires g c =
     let t = c.args.self.now in
     let from = c.args.from in
     let to = c.args.to in

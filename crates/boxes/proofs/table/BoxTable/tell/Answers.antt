@@ -15,5 +15,5 @@ returns g c s =
       bounds = s.bounds b l;
       records = sym (box_length (entries_of g.R.Point g.R.Record t) (cuts_of t) t.nodes t.order s (order_long t g.R.Point g.R.Record) (has_runs t g.R.Point g.R.Record) b l);
       tallies = s.tallies b l;
-      cut = c.cut-of-cut.ensures s;
+      cut = c.cut_of-cut.ensures s;
     }

@@ -9,8 +9,8 @@ loop-k-preserved c =
     let lt : k < length c.loop-k.numbers = omega (arith, c.loop-k.invariant.1, c.args.centers.now.few) in
     (below_more _ _ (λ i h. let ne : i ≢ k = omega arith in rw get_or-set_other (c.loop-k.invariant.0 i h)) (rw get_or-set_same), simp length-set c.loop-k.invariant.1)
 
-pub invariant-of-result : goal.invariant-of-result
-invariant-of-result c =
+pub invariant_of-result : goal.invariant_of-result
+invariant_of-result c =
     let same = c.loop-k.invariant.0 in
     let centers = c.args.centers.now in
     (c.loop-k.invariant.1, (centers.some, (centers.few, ((λ i h. omega (arith, same i (omega arith))), ((λ i j h l. omega (arith, same i (omega arith), same j (omega arith))), tt)))))
