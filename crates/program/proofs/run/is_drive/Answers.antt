@@ -9,6 +9,6 @@ pub returns-in-Some : goal.returns-in-Some
 returns-in-Some c =
     let is = sym (ap bytes_of c.in-Some.is) in
     record {
-      drive = λ e. subst (λ o. Settles o DriveRecords) is (drive_settles _ _ c.has-names.ensures e);
-      telegram = λ e. subst (λ o. Settles o TelegramRecords) is (telegram_settles _ _ c.has-names.ensures e);
+      drive = λ e. subst (λ o. Settles o DriveRecords) is (drive_settles _ _ c.has_names.ensures e);
+      telegram = λ e. subst (λ o. Settles o TelegramRecords) is (telegram_settles _ _ c.has_names.ensures e);
     }

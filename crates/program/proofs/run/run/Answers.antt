@@ -3,8 +3,8 @@ use Rattle.rows.specs.declared.kind.FileKind.TheVariants.{DriveRecords, Telegram
 use Rattle.program.proofs.Concluding.{conclude}
 use Rattle.program.proofs.run.run.Goals as goal
 
-pub returns-then-is-drive : goal.returns-then-is-drive
-returns-then-is-drive c = conclude _ _ DriveRecords _ _ _ _ _ _ refl refl (λ r. refl) (λ x. refl) (c.is-drive.ensures.drive c.if-is-drive.true) c.run-kind.ensures
+pub returns-then-is_drive : goal.returns-then-is_drive
+returns-then-is_drive c = conclude _ _ DriveRecords _ _ _ _ _ _ refl refl (λ r. refl) (λ x. refl) (c.is-drive.ensures.drive c.if-is-drive.true) c.run-kind.ensures
 
-pub returns-else-is-drive : goal.returns-else-is-drive
-returns-else-is-drive c = conclude _ _ TelegramRecords _ _ _ _ _ _ refl refl (λ r. refl) (λ x. refl) (c.is-drive.ensures.telegram c.if-is-drive.false) c.run-kind-else-is-drive.ensures
+pub returns-else-is_drive : goal.returns-else-is_drive
+returns-else-is_drive c = conclude _ _ TelegramRecords _ _ _ _ _ _ refl refl (λ r. refl) (λ x. refl) (c.is-drive.ensures.telegram c.if-is-drive.false) c.run-kind-else-is-drive.ensures

@@ -5,19 +5,19 @@ use Rattle.program.specs.Answers.{GroupedFrom, start_at, both_read, first_refuse
 use Rattle.program.proofs.Reading.{count_read, few_centers, in_table, rows_read, was_accepted, was_refused}
 use Rattle.program.proofs.run.run_kind.Goals as goal
 
-pub returns-in-err-n : goal.returns-in-err-n
-returns-in-err-n g c =
+pub returns-in_err-n : goal.returns-in_err-n
+returns-in_err-n g c =
     let p = err_from_is_err_and c.from-residual.result c.from-residual.ensures.1 in
     rw (p.1, p.2) (first_refused (was_refused 1 _ _ _ _ c.load.new.table c.requires.records _ _ c.load.ensures c.in-err-n.was))
 
-pub returns-in-err-m : goal.returns-in-err-m
-returns-in-err-m g c =
+pub returns-in_err-m : goal.returns-in_err-m
+returns-in_err-m g c =
     let p = err_from_is_err_and c.from-residual-in-err-m.result c.from-residual-in-err-m.ensures.1 in
     let a = was_accepted 1 _ _ _ _ c.load.new.table c.requires.records _ _ c.load.auto.table c.load.ensures c.in-ok-n.was in
     rw (p.1, p.2) (second_refused (take c.in-ok-n.n c.load.new.table) a.0 (was_refused 2 _ _ _ _ c.load-2.new.table c.requires.rows _ _ c.load-2.ensures c.in-err-m.was))
 
-pub group-rows-requires : goal.group-rows-requires
-group-rows-requires g c =
+pub group_rows-requires : goal.group_rows-requires
+group_rows-requires g c =
     let a = was_accepted 1 _ _ _ _ c.load.new.table c.requires.records _ _ c.load.auto.table c.load.ensures c.in-ok-n.was in
     let b = was_accepted 2 _ _ _ _ c.load-2.new.table c.requires.rows _ _ c.load-2.auto.table c.load-2.ensures c.in-ok-m.was in
     let n = in_table g.R.Row.kind c.in-ok-n.n a.1.1 in

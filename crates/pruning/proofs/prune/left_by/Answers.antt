@@ -52,7 +52,13 @@ invariant_of-result g c =
     let fit = left_fit prunes los his (among axes s) (listed s) (take count numbers) left (candidates_fit axes s) in
     let long = c.loop-i.invariant.2 in
     let few : count ≤ 32 = omega (arith, c.loop-i.invariant.1, c.loop-i.auto.i-end, c.count-i-end.ensures.range.1) in
-    (long, (fit_some axes centers numbers count long few fit, (few, (fit_known axes centers numbers count long few fit, (fit_rises axes centers numbers count long few fit, tt)))))
+    record {
+      long = long;
+      some = fit_some axes centers numbers count long few fit;
+      few = few;
+      known = fit_known axes centers numbers count long few fit;
+      rises = fit_rises axes centers numbers count long few fit;
+    }
 
 pub returns : goal.returns
 returns g c =

@@ -5,8 +5,8 @@ use Rattle.boxes.proofs.Regions.{child_range, holds_child}
 use Rattle.boxes.proofs.Tables.{count_is}
 use Rattle.boxes.proofs.table.BoxTable.+descend.Goals as goal
 
-pub child-of-child-requires : goal.child-of-child-requires
-child-of-child-requires g t c = c.args.self.now.links c.args.b c.in-Some.i c.requires c.in-Some.is
+pub child_of-child-requires : goal.child_of-child-requires
+child_of-child-requires g t c = c.args.self.now.links c.args.b c.in-Some.i c.requires c.in-Some.is
 
 pub descend-requires : goal.descend-requires
 descend-requires g t c κs within =

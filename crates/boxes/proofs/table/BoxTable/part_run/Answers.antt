@@ -24,7 +24,16 @@ invariant_of-self g c =
     let to = c.args.to in
     let end : to ≤ length t.order = omega (arith, t.recording.few, t.long, c.requires.1) in
     let r = reordered_mid t.order c.part.new.run from to c.requires.0 end c.part.auto.run c.part.ensures.shuffled in
-    (t.wide, (t.logged, (r.long ∙ t.long, (t.few, (reordered_known t.order _ from to c.requires.0 end r _ c.requires.1 t.known, (t.runs, (t.links, (t.rising, tt))))))))
+    record {
+      wide = t.wide;
+      logged = t.logged;
+      long = r.long ∙ t.long;
+      few = t.few;
+      known = reordered_known t.order _ from to c.requires.0 end r _ c.requires.1 t.known;
+      runs = t.runs;
+      links = t.links;
+      rising = t.rising;
+    }
 
 pub returns : goal.returns
 returns g c =

@@ -14,25 +14,17 @@ invariant_of-self g c =
     let xs = set t.nodes b n in
     let ys = set xs (2 * i + 1) first in
     let zs = set ys (2 * i + 2) second in
-    let grown = grown_by t.nodes i b n first second t.wide c.requires.room c.requires.stood c.cut_box.ensures in (
-      length-set ys (2 * i + 2) second ∙ length-set xs (2 * i + 1) first ∙ length-set t.nodes b n ∙ t.wide,
-      (
-        length-set t.cuts i c.args.cut ∙ t.logged,
-        (
-          t.long,
-          (
-            omega (arith, c.requires.room),
-            (
-              t.known,
-              (
-                runs_grown t.nodes i b first second zs grown _ c.requires.stood t.runs c.requires.run.0 c.requires.within.0 c.requires.run.1 c.requires.within.1,
-                (cuts_grown t.nodes i b first second zs grown c.requires.uncut.0 c.requires.uncut.1 t.links, (rises_grown t.nodes i b first second zs grown c.requires.stood c.requires.uncut.0 c.requires.uncut.1 t.rising, tt)),
-              ),
-            ),
-          ),
-        ),
-      ),
-    )
+    let grown = grown_by t.nodes i b n first second t.wide c.requires.room c.requires.stood c.cut_box.ensures in
+    record {
+      wide = length-set ys (2 * i + 2) second ∙ length-set xs (2 * i + 1) first ∙ length-set t.nodes b n ∙ t.wide;
+      logged = length-set t.cuts i c.args.cut ∙ t.logged;
+      long = t.long;
+      few = omega (arith, c.requires.room);
+      known = t.known;
+      runs = runs_grown t.nodes i b first second zs grown _ c.requires.stood t.runs c.requires.run.0 c.requires.within.0 c.requires.run.1 c.requires.within.1;
+      links = cuts_grown t.nodes i b first second zs grown c.requires.uncut.0 c.requires.uncut.1 t.links;
+      rising = rises_grown t.nodes i b first second zs grown c.requires.stood c.requires.uncut.0 c.requires.uncut.1 t.rising;
+    }
 
 pub returns : goal.returns
 returns g c =

@@ -13,7 +13,13 @@ pub invariant_of-result : goal.invariant_of-result
 invariant_of-result c =
     let same = c.loop-k.invariant.0 in
     let centers = c.args.centers.now in
-    (c.loop-k.invariant.1, (centers.some, (centers.few, ((λ i h. omega (arith, same i (omega arith))), ((λ i j h l. omega (arith, same i (omega arith), same j (omega arith))), tt)))))
+    record {
+      long = c.loop-k.invariant.1;
+      some = centers.some;
+      few = centers.few;
+      known = λ i h. omega (arith, same i (omega arith));
+      rises = λ i j h l. omega (arith, same i (omega arith), same j (omega arith));
+    }
 
 pub returns : goal.returns
 returns c =
