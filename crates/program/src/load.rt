@@ -27,7 +27,7 @@ pub(crate) fn load<R: Row>(
     input: Option<&[u8]>,
     table: &mut [R],
 ) -> Result<usize, ProgramFault>
-    ensures { Loaded file kind fields (bytes_of input.entry) table.old table.new result }
+    ensures { Loaded file R.kind R.fields (bytes_of input.entry) table.old table.new result }
 {
     let bytes = admit(file, input)?;
     Ok(place_at(read_table(bytes, table), file)?)

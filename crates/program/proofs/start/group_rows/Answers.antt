@@ -10,7 +10,10 @@ pub invariant_of-result : goal.invariant_of-result
 invariant_of-result g c =
     let old = c.start_groups.new.groups in
     let fits : length c.args.rows.now ≤ length old = omega (arith, c.start_groups.auto.groups, c.requires.centers) in
-    (c.requires.centers, (as_long old c.group.new.groups (length c.args.rows.now) fits c.group.auto.groups ∙ c.start_groups.auto.groups, tt))
+    record {
+      few = c.requires.centers;
+      long = as_long old c.group.new.groups (length c.args.rows.now) fits c.group.auto.groups ∙ c.start_groups.auto.groups;
+    }
 
 pub returns : goal.returns
 returns g c =

@@ -32,7 +32,7 @@ returns g c =
     let covered : Covered (among axes all) (listed all) (contents cuts 0 es) = subst (λ fs. Covered (among axes all) (listed all) fs) (sym (contents_all cuts es)) (subst (λ ds. Covered ds (listed all) es) (sym same) (subst (λ ks. Covered cs ks es) (sym names) (covered_all cs es some))) in
     record {
       assigned = λ a.
-          let done : AssignedIn cs es cuts 0 c.args.out.now c.assign-box.new.out = subst (λ ds. AssignedIn ds es cuts 0 c.args.out.now c.assign-box.new.out) same (c.assign-box.ensures a covered) in
-          (c.assign-box.auto.out ∙ long ∙ sym many, λ i l. done.inside i l (holds_root cuts _));
+          let done : AssignedIn cs es cuts 0 c.args.out.now c.assign_box.new.out = subst (λ ds. AssignedIn ds es cuts 0 c.args.out.now c.assign_box.new.out) same (c.assign_box.ensures a covered) in
+          (c.assign_box.auto.out ∙ long ∙ sym many, λ i l. done.inside i l (holds_root cuts _));
       refused = long;
     }

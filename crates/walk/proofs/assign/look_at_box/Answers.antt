@@ -21,8 +21,8 @@ bounds-records-i g c =
     let same : rs ≡ c.args.table.now.recording.records.now = c.records-records.ensures ∙ ap (λ r. r.records.now) c.recording-recording.ensures in
     All-get_or (λ i. i < length rs) c.run-run.result.now c.loop-i.i-index 0 c.loop-i-test.true (subst (λ xs. All (λ i. i < length xs) c.run-run.result.now) (sym same) c.run-run.ensures.known)
 
-pub offset-bounds-records-i : goal.offset-bounds-records-i
-offset-bounds-records-i g c =
+pub offset_bounds-records-i : goal.offset_bounds-records-i
+offset_bounds-records-i g c =
     let rs = c.records-records.result.now in
     let same : rs ≡ c.args.table.now.recording.records.now = c.records-records.ensures ∙ ap (λ r. r.records.now) c.recording-recording.ensures in
     omega (arith, All-get_or (λ i. i < length rs) c.run-run.result.now c.loop-i.i-index 0 c.loop-i-test.true (subst (λ xs. All (λ i. i < length xs) c.run-run.result.now) (sym same) c.run-run.ensures.known))

@@ -15,7 +15,7 @@ loop-a-preserved g c =
     let a = c.loop-a.a in
     let p = position_place c.args.center.now in
     let f : ℕ → ℤ → ℤ = λ axis x. axis_cost (number t.sums axis) t.weight x in
-    let four : a < 4 = omega (arith, g.met.R.Point.few.1, c.axis-count-n.ensures) in
+    let four : a < 4 = omega (arith, g.met.R.Point.few.1, c.axis_count-n.ensures) in
     let y = c.axis_costs.result in
     let is : y ≡ int_wrap w64 (f a (number p a)) = search rules in
     let sum : c.add-cost.result ≡ int_wrap w64 (c.loop-a.cost +ℤ y) = search rules in
@@ -25,5 +25,5 @@ loop-a-preserved g c =
 pub returns : goal.returns
 returns g c =
     let t = c.args.group.now in
-    let all : c.loop-a.a ≡ g.R.Point.axes = omega (arith, c.axis-count-n.ensures) in
+    let all : c.loop-a.a ≡ g.R.Point.axes = omega (arith, c.axis_count-n.ensures) in
     c.loop-a.invariant ∙ ap (λ n. int_wrap w64 (cost_of t (take n (position_place c.args.center.now)))) all

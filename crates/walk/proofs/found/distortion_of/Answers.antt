@@ -11,7 +11,7 @@ use Rattle.walk.specs.Told.{tallies_at, cost_of}
 use Rattle.walk.proofs.Adding.{stored}
 use Rattle.walk.proofs.Costing.{turn_wrapped, no_base}
 use Rattle.walk.proofs.found.distortion_of.Goals as goal
-use Rattle.walk.proofs.found.distortion_of.Goals.{in-Some, in-default}
+use Rattle.walk.proofs.found.distortion_of.Goals.{in-Some, in_default}
 
 pub loop-k-preserved : goal.loop-k-preserved
 loop-k-preserved g c =
@@ -24,14 +24,14 @@ loop-k-preserved g c =
     let lk : k < length ps = omega (arith, c.count-k-end.ensures.is) in
     elim c.match-position.branch [
       | in-Some w ↦
-          let y = w.costs-at.result in
-          let same : to_z w64 (of_z w64 y) ≡ y = to_z-of_z w64 y (record { sfits = w.costs-at.type-inv }) in
+          let y = w.costs_at.result in
+          let same : to_z w64 (of_z w64 y) ≡ y = to_z-of_z w64 y (record { sfits = w.costs_at.type_inv }) in
           let at : place_of axes w.in-Some.center ≡ get_or cs k [] = ap (place_of axes) w.in-Some.ensures.1 ∙ sym (get_or-map (place_of axes) ps k _ [] lk) in
-          let cost : int_wrap w64 y ≡ int_wrap w64 (f k (get_or cs k [])) = w.costs-at.ensures ∙ ap (λ x. int_wrap w64 (f k x)) at in
+          let cost : int_wrap w64 y ≡ int_wrap w64 (f k (get_or cs k [])) = w.costs_at.ensures ∙ ap (λ x. int_wrap w64 (f k x)) at in
           ap (int_wrap w64) (w.distortion-is ∙ ap (λ z. to_z w64 (of_z w64 z)) (w.add-distortion.ensures ∙ ap (λ z. int_wrap w64 (_ +ℤ z)) same) ∙ stored _)
           ∙ turn_wrapped f cs k [] (pos 0) _ y _ (omega (arith, many)) (c.loop-k.invariant ∙ ap (int_wrap w64) (sym (no_base _))) cost refl
           ∙ ap (int_wrap w64) (no_base _)
-      | in-default w ↦ absurd (omega (arith, w.in-default.ensures))
+      | in_default w ↦ absurd (omega (arith, w.in_default.ensures))
     ]
 
 pub returns : goal.returns

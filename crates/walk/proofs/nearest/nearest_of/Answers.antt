@@ -12,12 +12,12 @@ returns g c =
     let axes = g.R.Point.axes in
     let s = c.args.candidates.now in
     let p = g.R.Point.place c.args.r.now in
-    let here = c.position-of-here.result in
+    let here = c.position_of-here.result in
     let l = c.leader.result.number in
-    let n = c.axis-count.ensures in
+    let n = c.axis_count.ensures in
     let leads = subst (λ a. Leader (place_of a here) (place_of a here) (among a s) (listed s) l) n c.leader.ensures.leads in
     let fit = candidates_fit axes s in
     record {
-      chosen = leader_chosen (among axes s) (listed s) p (place_of axes here) (place_of axes here) l c.position-of-here.ensures c.position-of-here.ensures fit.known leads;
+      chosen = leader_chosen (among axes s) (listed s) p (place_of axes here) (place_of axes here) l c.position_of-here.ensures c.position_of-here.ensures fit.known leads;
       known = omega (arith, all-has (λ k. k < length (among axes s)) (listed s) l fit.known leads.one_of, length_centers axes s.centers.now, s.centers.now.few);
     }

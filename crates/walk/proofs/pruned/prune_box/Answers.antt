@@ -24,7 +24,7 @@ returns g c =
     let r = c.prune.result in
     let b = c.args.b in
     let prunes = g.T.Rule.prunes c.args.rule.now in
-    let n = c.axis-count.ensures in
+    let n = c.axis_count.ensures in
     let is = ap (λ m. m.bounds) (c.node-node.ensures.is c.requires) in
     let left : Left prunes (lows axes (node_at t.nodes b).bounds) (highs axes (node_at t.nodes b).bounds) (among axes s) (listed s) (listed r) =
     subst (λ x. Left prunes (lows axes x) (highs axes x) (among axes s) (listed s) (listed r)) is (subst (λ m. Left prunes (lows m c.node-node.result.bounds) (highs m c.node-node.result.bounds) (among m s) (listed s) (listed r)) n c.prune.ensures.left) in

@@ -18,7 +18,7 @@ use Rattle.walk.proofs.survey.+tally_box.Goals as goal
 
 pub credit-requires : goal.credit-requires
 credit-requires g t c =
-    let s = c.prune-box-left.result in
+    let s = c.prune_box-left.result in
     omega (arith, all-has (λ k. k < length (among 0 s)) (listed s) c.get.result.number (candidates_fit 0 s).known c.get.ensures.one, length_centers 0 s.centers.now, s.centers.now.few)
 
 pub returns-then-count-eq1 : goal.returns-then-count-eq1
@@ -26,7 +26,7 @@ returns-then-count-eq1 g t c =
     let axes = g.R.Point.axes in
     let table = c.args.table.now in
     let s = c.args.candidates.now in
-    let left = c.prune-box-left.result in
+    let left = c.prune_box-left.result in
     let b = c.args.b in
     let es = entries_of g.R.Point g.R.Record table in
     let sized : All (λ e. length e.place ≡ axes) es = All-map (λ e. length e.place ≡ axes) (λ x. entry g.R.Point g.R.Record x) table.recording.records.now (all_of g.met.R.Point.sized table.recording.records.now) in
@@ -36,8 +36,8 @@ returns-then-count-eq1 g t c =
     subst (λ ts. Credited k (node_at table.nodes b).tallies ts c.credit.new.out.groups) c.note.ensures.groups (subst (λ m. Credited k m c.note.new.out.groups c.credit.new.out.groups) (ap (λ m. m.tallies) (c.node-node.ensures.is c.requires)) c.credit.ensures.credited) in
     let queries = c.note.ensures.queries ∙ ap (λ n. (c.args.out.now.queries + (n - 1)) % 2 ^ 64) c.count.ensures.is in
     record {
-      grown = λ a h. grown_one_left (g.T.Rule.prunes c.args.rule.now) axes es (cuts_of table) table.nodes table.order (among axes s) b (listed s) (listed left) a c.requires g.met.R.Point.few.1 sized c.prune-box-left.ensures.left k c.args.out.now.groups c.credit.new.out.groups one (c.get.ensures.at (omega (arith, one))) credited (c.prune-box-left.ensures.covers a h);
-      counted = λ a. counted_one (g.T.Rule.prunes c.args.rule.now) axes es (cuts_of table) table.nodes table.order (among axes s) b (listed s) (listed left) a c.requires g.met.R.Point.few.1 sized c.prune-box-left.ensures.left c.args.out.now c.note.new.out c.credit.new.out one c.note.ensures.distances queries c.credit.ensures.distances c.credit.ensures.queries;
+      grown = λ a h. grown_one_left (g.T.Rule.prunes c.args.rule.now) axes es (cuts_of table) table.nodes table.order (among axes s) b (listed s) (listed left) a c.requires g.met.R.Point.few.1 sized c.prune_box-left.ensures.left k c.args.out.now.groups c.credit.new.out.groups one (c.get.ensures.at (omega (arith, one))) credited (c.prune_box-left.ensures.covers a h);
+      counted = λ a. counted_one (g.T.Rule.prunes c.args.rule.now) axes es (cuts_of table) table.nodes table.order (among axes s) b (listed s) (listed left) a c.requires g.met.R.Point.few.1 sized c.prune_box-left.ensures.left c.args.out.now c.note.new.out c.credit.new.out one c.note.ensures.distances queries c.credit.ensures.distances c.credit.ensures.queries;
     }
 
 pub returns-in-Some : goal.returns-in-Some
@@ -45,7 +45,7 @@ returns-in-Some g t c =
     let axes = g.R.Point.axes in
     let table = c.args.table.now in
     let s = c.args.candidates.now in
-    let left = c.prune-box-left.result in
+    let left = c.prune_box-left.result in
     let b = c.args.b in
     let i = c.in-Some.i in
     let es = entries_of g.R.Point g.R.Record table in
@@ -56,17 +56,17 @@ returns-in-Some g t c =
     let queries = c.note.ensures.queries ∙ ap (λ n. (c.args.out.now.queries + (n - 1)) % 2 ^ 64) c.count.ensures.is in
     let cut : (node_at table.nodes b).cut ≡ Some i = ap (λ m. m.cut) (sym (c.node-node.ensures.is c.requires)) ∙ c.in-Some.is in
     let li : i < length cuts = omega (arith, (c.node-node.ensures.children i c.requires c.in-Some.is).0) in
-    let same = c.prune-box-left.ensures.among in
+    let same = c.prune_box-left.ensures.among in
     record {
-      grown = λ a h. grown_cut prunes axes es cuts table.nodes table.order (among axes s) b (listed s) (listed left) a c.requires g.met.R.Point.few.1 sized c.prune-box-left.ensures.left i li (a.cut_by b i c.requires cut)
-          c.args.out.now.groups c.tally-box.new.out.groups c.tally-box-in-Some.new.out.groups
-          (subst (λ ts. Covered (among axes s) (listed left) (contents cuts (2 * i + 1) es) → Grown (among axes s) (contents cuts (2 * i + 1) es) ts c.tally-box.new.out.groups) c.note.ensures.groups (subst (λ cs. Covered cs (listed left) (contents cuts (2 * i + 1) es) → Grown cs (contents cuts (2 * i + 1) es) c.note.new.out.groups c.tally-box.new.out.groups) same (c.tally-box.ensures.grown a)))
-          (subst (λ cs. Covered cs (listed left) (contents cuts (2 * i + 2) es) → Grown cs (contents cuts (2 * i + 2) es) c.tally-box.new.out.groups c.tally-box-in-Some.new.out.groups) same (c.tally-box-in-Some.ensures.grown a))
-          (c.prune-box-left.ensures.covers a h);
-      counted = λ a. counted_cut prunes axes es cuts table.nodes table.order (among axes s) b (listed s) (listed left) a c.requires g.met.R.Point.few.1 sized c.prune-box-left.ensures.left i li (a.cut_by b i c.requires cut)
-          c.args.out.now c.note.new.out c.tally-box.new.out c.tally-box-in-Some.new.out several c.note.ensures.distances queries
-          (subst (λ cs. Counted prunes axes es cs cuts (2 * i + 1) (listed left) c.note.new.out c.tally-box.new.out) same (c.tally-box.ensures.counted a))
-          (subst (λ cs. Counted prunes axes es cs cuts (2 * i + 2) (listed left) c.tally-box.new.out c.tally-box-in-Some.new.out) same (c.tally-box-in-Some.ensures.counted a));
+      grown = λ a h. grown_cut prunes axes es cuts table.nodes table.order (among axes s) b (listed s) (listed left) a c.requires g.met.R.Point.few.1 sized c.prune_box-left.ensures.left i li (a.cut_by b i c.requires cut)
+          c.args.out.now.groups c.tally_box.new.out.groups c.tally_box-in-Some.new.out.groups
+          (subst (λ ts. Covered (among axes s) (listed left) (contents cuts (2 * i + 1) es) → Grown (among axes s) (contents cuts (2 * i + 1) es) ts c.tally_box.new.out.groups) c.note.ensures.groups (subst (λ cs. Covered cs (listed left) (contents cuts (2 * i + 1) es) → Grown cs (contents cuts (2 * i + 1) es) c.note.new.out.groups c.tally_box.new.out.groups) same (c.tally_box.ensures.grown a)))
+          (subst (λ cs. Covered cs (listed left) (contents cuts (2 * i + 2) es) → Grown cs (contents cuts (2 * i + 2) es) c.tally_box.new.out.groups c.tally_box-in-Some.new.out.groups) same (c.tally_box-in-Some.ensures.grown a))
+          (c.prune_box-left.ensures.covers a h);
+      counted = λ a. counted_cut prunes axes es cuts table.nodes table.order (among axes s) b (listed s) (listed left) a c.requires g.met.R.Point.few.1 sized c.prune_box-left.ensures.left i li (a.cut_by b i c.requires cut)
+          c.args.out.now c.note.new.out c.tally_box.new.out c.tally_box-in-Some.new.out several c.note.ensures.distances queries
+          (subst (λ cs. Counted prunes axes es cs cuts (2 * i + 1) (listed left) c.note.new.out c.tally_box.new.out) same (c.tally_box.ensures.counted a))
+          (subst (λ cs. Counted prunes axes es cs cuts (2 * i + 2) (listed left) c.tally_box.new.out c.tally_box-in-Some.new.out) same (c.tally_box-in-Some.ensures.counted a));
     }
 
 pub returns-in-None : goal.returns-in-None
@@ -74,7 +74,7 @@ returns-in-None g t c =
     let axes = g.R.Point.axes in
     let table = c.args.table.now in
     let s = c.args.candidates.now in
-    let left = c.prune-box-left.result in
+    let left = c.prune_box-left.result in
     let b = c.args.b in
     let es = entries_of g.R.Point g.R.Record table in
     let cuts = cuts_of table in
@@ -83,7 +83,7 @@ returns-in-None g t c =
     let several : length (listed left) ≡ 1 → ⊥ = λ e. c.if-count-eq1.false (c.count-2.ensures.is ∙ e) in
     let queries = c.note.ensures.queries ∙ ap (λ n. (c.args.out.now.queries + (n - 1)) % 2 ^ 64) c.count.ensures.is in
     let uncut : (node_at table.nodes b).cut ≡ None = ap (λ m. m.cut) (sym (c.node-node.ensures.is c.requires)) ∙ c.in-None.is in
-    let same = c.prune-box-left.ensures.among in
+    let same = c.prune_box-left.ensures.among in
     let many : length es ≡ length table.recording.records.now = length-map table.recording.records.now (λ x. entry g.R.Point g.R.Record x) in
     let count : length cuts ≡ table.count = length-take-le table.count table.cuts (omega (arith, table.few, table.logged)) in
     let r = table.runs b (omega (arith, count, c.requires)) in
@@ -91,9 +91,9 @@ returns-in-None g t c =
     let up : (node_at table.nodes b).from ≤ (node_at table.nodes b).to = omega (arith, r.0) in
     let end : (node_at table.nodes b).to ≤ length es = omega (arith, many, r.1) in
     record {
-      grown = λ a h. grown_read prunes axes es cuts table.nodes table.order (among axes s) b (listed s) (listed left) a c.requires g.met.R.Point.few.1 sized c.prune-box-left.ensures.left long up end c.args.out.now.groups c.read-box.new.out.groups
-          (subst (λ ts. Covered (among axes s) (listed left) (picked es (run_of table b)) → Grown (among axes s) (picked es (run_of table b)) ts c.read-box.new.out.groups) c.note.ensures.groups (subst (λ cs. Covered cs (listed left) (picked es (run_of table b)) → Grown cs (picked es (run_of table b)) c.note.new.out.groups c.read-box.new.out.groups) same c.read-box.ensures.grown))
-          (c.prune-box-left.ensures.covers a h);
-      counted = λ a. counted_read prunes axes es cuts table.nodes table.order (among axes s) b (listed s) (listed left) a c.requires g.met.R.Point.few.1 sized c.prune-box-left.ensures.left c.args.out.now c.note.new.out c.read-box.new.out (length (run_of table b)) several uncut
-          (run_length prunes axes es cuts table.nodes table.order (among axes s) b (listed s) (listed left) a c.requires g.met.R.Point.few.1 sized c.prune-box-left.ensures.left long up end) c.note.ensures.distances queries c.read-box.ensures.distances c.read-box.ensures.queries;
+      grown = λ a h. grown_read prunes axes es cuts table.nodes table.order (among axes s) b (listed s) (listed left) a c.requires g.met.R.Point.few.1 sized c.prune_box-left.ensures.left long up end c.args.out.now.groups c.read_box.new.out.groups
+          (subst (λ ts. Covered (among axes s) (listed left) (picked es (run_of table b)) → Grown (among axes s) (picked es (run_of table b)) ts c.read_box.new.out.groups) c.note.ensures.groups (subst (λ cs. Covered cs (listed left) (picked es (run_of table b)) → Grown cs (picked es (run_of table b)) c.note.new.out.groups c.read_box.new.out.groups) same c.read_box.ensures.grown))
+          (c.prune_box-left.ensures.covers a h);
+      counted = λ a. counted_read prunes axes es cuts table.nodes table.order (among axes s) b (listed s) (listed left) a c.requires g.met.R.Point.few.1 sized c.prune_box-left.ensures.left c.args.out.now c.note.new.out c.read_box.new.out (length (run_of table b)) several uncut
+          (run_length prunes axes es cuts table.nodes table.order (among axes s) b (listed s) (listed left) a c.requires g.met.R.Point.few.1 sized c.prune_box-left.ensures.left long up end) c.note.ensures.distances queries c.read_box.ensures.distances c.read_box.ensures.queries;
     }

@@ -21,8 +21,8 @@ bounds-records-i g c =
     let known = subst (λ xs. All (λ i. i < length xs) c.run-run.result.now) (sym same) c.run-run.ensures.known in
     All-get_or (λ i. i < length rs) c.run-run.result.now c.loop-i.i-index 0 c.loop-i-test.true known
 
-pub offset-bounds-records-i : goal.offset-bounds-records-i
-offset-bounds-records-i g c =
+pub offset_bounds-records-i : goal.offset_bounds-records-i
+offset_bounds-records-i g c =
     let rs = c.records-records.result.now in
     let same : rs ≡ c.args.table.now.recording.records.now = c.records-records.ensures ∙ ap (λ r. r.records.now) c.recording-recording.ensures in
     let known = subst (λ xs. All (λ i. i < length xs) c.run-run.result.now) (sym same) c.run-run.ensures.known in
@@ -39,13 +39,13 @@ loop-i-preserved g c =
     let same : rs ≡ c.args.table.now.recording.records.now = c.records-records.ensures ∙ ap (λ x. x.records.now) c.recording-recording.ensures in
     let known = All-get_or (λ n. n < length rs) run i 0 c.loop-i-test.true (subst (λ xs. All (λ n. n < length xs) run) (sym same) c.run-run.ensures.known) in
     let e = entry g.R.Point g.R.Record r in (
-      run_turn (among g.R.Point.axes s) (listed s) es run i c.args.out.now.groups c.loop-i.out.groups c.credit.new.out.groups _ _ e c.loop-i-test.true (entry_of g.R.Point g.R.Record rs (get_or run i 0) r known c.index-records-i.is) c.loop-i.invariant.0 c.nearest_of.ensures.chosen c.credit.ensures.credited (tally_one e _ c.of-record.ensures),
+      run_turn (among g.R.Point.axes s) (listed s) es run i c.args.out.now.groups c.loop-i.out.groups c.credit.new.out.groups _ _ e c.loop-i-test.true (entry_of g.R.Point g.R.Record rs (get_or run i 0) r known c.index-records-i.is) c.loop-i.invariant.0 c.nearest_of.ensures.chosen c.credit.ensures.credited (tally_one e _ c.of_record.ensures),
       c.credit.ensures.distances ∙ c.loop-i.invariant.1,
       c.credit.ensures.queries ∙ c.loop-i.invariant.2,
     )
 
-pub overflow-mul-run : goal.overflow-mul-run
-overflow-mul-run g c =
+pub overflow_mul-run : goal.overflow_mul-run
+overflow_mul-run g c =
     let t = c.args.table.now in
     let count : length (cuts_of t) ≡ t.count = length-take-le t.count t.cuts (omega (arith, t.few, t.logged)) in
     let r = t.runs c.args.b (omega (arith, count, c.requires)) in

@@ -4,9 +4,15 @@ use Rattle.walk.specs.Told.{told}
 use Rattle.walk.proofs.Adding.{none, at_equal, rows_equal, none_told, blank_told, zero_fits}
 use Rattle.walk.proofs.totals.nothing.Goals as goal
 
-pub invariant-of-result : goal.invariant-of-result
-invariant-of-result c =
-    (refl, (λ k l. rows_equal none refl 32 k l, (lit< tt, (lit< tt, (λ q k. at_equal (λ t. told q t ≡ int_wrap w64 (told q t)) none (zero_fits q none (none_told q)) (zero_fits q _ (blank_told q)) 32 k, tt)))))
+pub invariant_of-result : goal.invariant_of-result
+invariant_of-result c =
+    record {
+      long = refl;
+      rows = λ k l. rows_equal none refl 32 k l;
+      near = lit< tt;
+      asked = lit< tt;
+      fits = λ q k. at_equal (λ t. told q t ≡ int_wrap w64 (told q t)) none (zero_fits q none (none_told q)) (zero_fits q _ (blank_told q)) 32 k;
+    }
 
 pub returns : goal.returns
 returns c = record { groups = λ q k. at_equal (λ t. told q t ≡ pos 0) none (none_told q) (blank_told q) 32 k; distances = refl; queries = refl }
