@@ -1,4 +1,6 @@
 // The table of boxes over a recording: cutting a box in two, halving, a point's smallest box, and what a box tells.
+#![tactic(auto)]
+
 pub mod access;
 pub mod cut;
 pub mod cutting;

@@ -1,4 +1,6 @@
 // Prints what `group` prints, by the direct method: every record is compared with every center.
+#![tactic(auto)]
+
 use console::input::{CENTERS, Input, RECORDING};
 use console::show::show;
 use program::run::run;

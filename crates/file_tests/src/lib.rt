@@ -1,3 +1,5 @@
+#![tactic(auto)]
+
 // Tests of the program as a function: what is told of two files that are given as text.
 #[cfg(test)]
 mod limits;

@@ -1,5 +1,5 @@
 -- The line of names at the front of a file.
-use Rattle.std.proofs.Common.{◌≡◌, ℕ, ◌+◌, ◌<◌, List, [], ◌∷◌, ◌++◌, length, is_some, IfSome, Some, None, Decides, Option, sym, refl, ap, ◌∙◌, subst, append_assoc, arith}
+use Rattle.std.proofs.Common.{◌≡◌, ℕ, List, [], ◌∷◌, ◌++◌, length, is_some, IfSome, Some, None, Decides, Option, sym, refl, ap, ◌∙◌, subst, append_assoc, arith}
 use borrow.Author.Tests.{clash}
 use Rattle.std.proofs.lemmas.List.{length-map}
 use Rattle.reader.specs.declared.cursor.Reader.{Reader}

@@ -1,8 +1,8 @@
 -- A file has one outcome: it is cut at its line ends in one way, and what follows its right rows is said in one way.
-use Rattle.std.proofs.Common.{◌≡◌, ℕ, zero, suc, ◌+◌, ◌<◌, ◌≤◌, Bool, true, false, cond, List, [], ◌∷◌, ◌++◌, map, length, get_or, take, drop, ℤ, pos, Some, None, Ok, Err, Option, Result, sym, refl, ap, ◌∙◌, subst, append_assoc, append-nil, arith}
-use Rattle.std.specs.List.{flat_map, AllByRecursion as All}
+use Rattle.std.proofs.Common.{◌≡◌, ℕ, zero, suc, ◌+◌, ◌<◌, ◌≤◌, List, [], ◌∷◌, ◌++◌, map, length, get_or, take, ℤ, pos, Some, None, Ok, Err, Option, Result, sym, refl, ap, ◌∙◌, subst, append_assoc, append-nil, arith}
+use Rattle.std.specs.List.{AllByRecursion as All}
 use Rattle.std.specs.Fmt.{signed_decimal}
-use Rattle.std.proofs.lemmas.List.{length-append, length-map, length-take-le, nil_from_length}
+use Rattle.std.proofs.lemmas.List.{length-append, length-map, length-take-le}
 use Rattle.reader.specs.Fields.{Lacks, commas, fields_of}
 use Rattle.reader.proofs.Cuts.{no_cut, cut_unique}
 use Rattle.reader.proofs.Splits.{fields_commas}
@@ -10,7 +10,7 @@ use Rattle.faults.specs.declared.row.RowFault.{RowFault}
 use Rattle.faults.specs.declared.row.RowFault.TheVariants.{Unended, Count, Value}
 use Rattle.rows.specs.declared.kind.FileKind.{FileKind}
 use Rattle.rows.specs.declared.order.Order.{Order}
-use Rattle.rows.specs.Columns.{width, is_centers}
+use Rattle.rows.specs.Columns.{width}
 use Rattle.rows.specs.Lines.{EachOnce, Fits, LineFaulty, cells_in, columns_in, names_in}
 use Rattle.rows.proofs.Exact.{one_fault, one_order, one_row, right_passes}
 use Rattle.rows.proofs.Named.{few}
@@ -18,8 +18,8 @@ use Rattle.rows.proofs.Plain.{cells_plain, commas_lack}
 use Rattle.rows.proofs.Spelled.{order_once}
 use Rattle.faults.specs.declared.file.FileFault.{FileFault}
 use Rattle.faults.specs.declared.file.FileFault.TheVariants.{Names, Row}
-use Rattle.files.specs.Format.{AcceptedExactly, Ending, LineWrong, OneOutcome, Outcome, Spelled, Unnamed, WithinLimits, ended, over, wrong, named, unnamed, line_of, lines_of, most, too_many_are, when_ended}
-use Rattle.files.specs.Reads.{FileRead, Filled, HeaderRead, NoOther, Read, RowsRead, said_by}
+use Rattle.files.specs.Format.{AcceptedExactly, Ending, LineWrong, OneOutcome, Outcome, Spelled, Unnamed, WithinLimits, ended, over, wrong, named, unnamed, line_of, lines_of, most, when_ended}
+use Rattle.files.specs.Reads.{FileRead, Filled, HeaderRead, NoOther, Read, RowsRead}
 use Rattle.files.proofs.Headers.{line_first, names_split, names_whole}
 use Rattle.files.proofs.Written.{within_room}
 

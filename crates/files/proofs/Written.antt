@@ -1,9 +1,9 @@
 -- The row of a line, and the rows in a table.
-use Rattle.std.proofs.Common.{◌≡◌, ℕ, zero, suc, ◌+◌, ◌<◌, ◌≤◌, min, Bool, true, false, cond, List, [], ◌∷◌, ◌++◌, map, length, get_or, take, drop, set, ℤ, pos, Some, Ok, Err, Decides, Result, sym, refl, ap, ◌∙◌, subst, append_assoc, append-nil, arith}
+use Rattle.std.proofs.Common.{◌≡◌, ℕ, zero, suc, ◌+◌, ◌<◌, ◌≤◌, min, Bool, true, false, cond, List, [], ◌∷◌, ◌++◌, map, length, get_or, take, drop, set, ℤ, pos, Some, Ok, Err, Decides, Result, sym, refl, ap, ◌∙◌, subst, append_assoc, arith}
 use borrow.Author.Tests.{clash}
-use Rattle.std.specs.List.{flat_map, AllByRecursion as All}
+use Rattle.std.specs.List.{AllByRecursion as All}
 use Rattle.std.proofs.ByRecursion.{All-push}
-use Rattle.std.proofs.lemmas.List.{ext_get_or, get_or-take, length-take-le, take_more_set, flat_map_more, drop-set-lt, drop-drop, map_push, length-append}
+use Rattle.std.proofs.lemmas.List.{ext_get_or, get_or-take, take_more_set, flat_map_more, drop-set-lt, drop-drop, map_push, length-append}
 use Rattle.std.proofs.lemmas.Int.{ints, clamps}
 use Rattle.value.specs.declared.range.ValueRange.{ValueRange}
 use Rattle.value.specs.Ranges.{Within, nearest_in}
@@ -17,7 +17,6 @@ use Rattle.rows.specs.declared.kind.FileKind.{FileKind}
 use Rattle.rows.specs.declared.name.Name.TheVariants.{Gap}
 use Rattle.rows.specs.Columns.{columns_of, width, range_at, full, is_centers}
 use Rattle.rows.specs.Lines.{Fits, LineFaulty, ValuesRead, row_in, cells_in}
-use Rattle.rows.proofs.Named.{few}
 use Rattle.faults.specs.declared.file.FileFault.{FileFault}
 use Rattle.faults.specs.declared.file.FileFault.TheVariants.{Row}
 use Rattle.files.specs.Format.{Ending, LineWrong, over, wrong, line_of, lines_of, most}

@@ -1,5 +1,5 @@
 -- How a file is written: a line of names, then a line for each row; and what can be wrong with a file that is not.
-use Rattle.std.specs.Prelude.{◌≡◌, ℕ, zero, suc, ◌+◌, ◌<◌, ◌≤◌, min, Bool, true, false, cond, List, [], ◌∷◌, ◌++◌, length, ℤ, Some, None, Option, ◌==◌}
+use Rattle.std.specs.Prelude.{◌≡◌, ℕ, zero, suc, ◌+◌, ◌<◌, ◌≤◌, min, cond, List, [], ◌∷◌, ◌++◌, length, ℤ, Some, None, Option, ◌==◌}
 use Rattle.std.specs.List.{flat_map, AllByRecursion as All}
 use Rattle.reader.specs.Fields.{Lacks, commas, fields_of}
 use Rattle.faults.specs.declared.row.RowFault.{RowFault}

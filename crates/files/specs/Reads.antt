@@ -1,10 +1,9 @@
 -- What the reading of a file leaves in the table, and what it answers.
-use Rattle.std.specs.Prelude.{◌≡◌, ℕ, ◌+◌, ◌<◌, ◌≤◌, List, [], ◌∷◌, ◌++◌, map, length, take, drop, ℤ, Some, None, Ok, Err, Option, Result}
+use Rattle.std.specs.Prelude.{◌≡◌, ℕ, ◌<◌, ◌≤◌, List, [], ◌++◌, map, length, take, drop, ℤ, Some, None, Ok, Err, Option, Result}
 use Rattle.std.specs.List.{AllByRecursion as All}
 use Rattle.faults.specs.declared.row.RowFault.{RowFault}
 use Rattle.rows.specs.declared.kind.FileKind.{FileKind}
 use Rattle.rows.specs.declared.order.Order.{Order}
-use Rattle.rows.specs.Columns.{width}
 use Rattle.rows.specs.Lines.{Fits, cells_in, columns_in, names_in}
 use Rattle.faults.specs.declared.file.FileFault.{FileFault}
 use Rattle.faults.specs.declared.file.FileFault.TheVariants.{Row}

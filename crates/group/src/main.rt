@@ -1,5 +1,7 @@
 // Groups the records of recording.txt around the centers of centers.txt, both in the folder that it is run in, and prints the groups
 // or the first fault.
+#![tactic(auto)]
+
 ghost use Rattle.std.specs.Prelude.{◌≤◌, length, IfSome, IfOk};
 
 use anyhow::anyhow;

@@ -1,5 +1,7 @@
 // Whole numbers: the laws of their sums, products and order, and of sums over lists. The other crates prove identities of polynomials by its
 // proofs/Quote.antt.
+#![tactic(auto)]
+
 ghost use Rattle.numbers.specs.Laws.{RingLaws, OrderLaws, SumLaws};
 
 // Products follow the laws of a ring, and rise with their factors.

@@ -1,5 +1,5 @@
 -- Numbers that lie in a range, narrowed to the fields of a telegram.
-use Rattle.std.proofs.Common.{◌≡◌, ◌≤◌, ℤ, pos, nat_abs, ◌≤ℤ◌, ap, ◌∙◌, subst, arith, w16, w32, SFits, to_z, of_z}
+use Rattle.std.proofs.Common.{◌≡◌, ℤ, pos, nat_abs, ◌≤ℤ◌, ap, ◌∙◌, subst, arith, w16, w32, SFits, to_z, of_z}
 use Rattle.std.proofs.lemmas.Int.{ints, clamps, to_z-of_z}
 use Rattle.value.specs.Ranges.{Within, nearest_in}
 use Rattle.value.specs.declared.range.ValueRange.{ValueRange}

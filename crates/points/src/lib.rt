@@ -1,4 +1,6 @@
 // Points, the records of a recording, and recordings that are neither empty nor too long.
+#![tactic(auto)]
+
 pub mod bounds;
 pub mod drive;
 pub mod fault;

@@ -1,10 +1,8 @@
 -- From the answer for a known kind to the answer of the program.
-use Rattle.std.proofs.Common.{◌≡◌, ℕ, List, [], ◌∷◌, map, ℤ, Option, Result, sym, refl, ap, ◌∙◌, subst}
-use Rattle.points.specs.declared.drive.DriveRecord.{DriveRecord}
-use Rattle.points.specs.declared.telegram.TelegramRecord.{TelegramRecord}
+use Rattle.std.proofs.Common.{◌≡◌, ℕ, List, [], ◌∷◌, map, ℤ, Option, Result, refl, subst}
 use Rattle.points.specs.declared.point.Point.{Ghosts as PointGhosts}
 use Rattle.points.specs.declared.record.Record.{Ghosts as RecordGhosts}
-use Rattle.points.specs.Entries.{Entry, entries}
+use Rattle.points.specs.Entries.{entries}
 use Rattle.rows.specs.declared.kind.FileKind.{FileKind}
 use Rattle.faults.specs.declared.program.ProgramFault.{ProgramFault}
 use Rattle.program.specs.declared.report.Report.{Report}

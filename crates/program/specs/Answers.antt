@@ -1,5 +1,5 @@
 -- What the program answers to two files.
-use Rattle.std.specs.Prelude.{◌≡◌, ℕ, List, map, length, take, ℤ, pos, Some, None, Ok, Err, Option, Result, slice_index_or, unsigned_abs}
+use Rattle.std.specs.Prelude.{◌≡◌, ℕ, List, map, length, take, ℤ, pos, Some, Ok, Err, Option, Result, slice_index_or, unsigned_abs}
 use Rattle.points.specs.declared.point.Point.{Ghosts as PointGhosts}
 use Rattle.points.specs.declared.record.Record.{Ghosts as RecordGhosts}
 use Rattle.points.specs.Entries.{Entry, entries}

@@ -1,5 +1,5 @@
 -- What is printed of a report: values with commas between them.
-use Rattle.std.specs.Prelude.{◌≡◌, ℕ, List, ◌∷◌, map, get_or, codes, decimal}
+use Rattle.std.specs.Prelude.{◌≡◌, ℕ, List, ◌∷◌, map, codes, decimal}
 use Rattle.std.specs.Fmt.{signed_decimal}
 use Rattle.points.specs.declared.position.Position.{Position}
 use Rattle.reader.specs.Fields.{commas}

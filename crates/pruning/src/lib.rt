@@ -1,4 +1,6 @@
 // Centers, candidates, and the rules by which a box loses those candidates that no place of it belongs to.
+#![tactic(auto)]
+
 pub mod candidates;
 pub mod centers;
 pub mod contender;

@@ -1,5 +1,5 @@
 -- The fields of a line of values, from the left.
-use Rattle.std.proofs.Common.{◌≡◌, ℕ, ◌+◌, ◌<◌, ◌≤◌, List, [], map, length, get_or, take, set, ℤ, pos, negsuc, Ok, Err, Result, sym, refl, ap, ◌∙◌, subst, inl, inr, arith, get_or-set_other, get_or-set_same, w32, SFits, to_z, of_z, below_more}
+use Rattle.std.proofs.Common.{◌≡◌, ℕ, ◌+◌, ◌<◌, List, [], length, get_or, set, ℤ, pos, negsuc, Ok, Err, Result, sym, ap, ◌∙◌, subst, arith, get_or-set_other, get_or-set_same, w32, SFits, to_z, of_z, below_more}
 use Rattle.std.specs.Fmt.{signed_decimal}
 use Rattle.std.proofs.lemmas.List.{ext_get_or, get_or_default, length-map, get_or-map, get_or-take, length-take-le}
 use Rattle.std.proofs.lemmas.Int.{to_z-of_z}

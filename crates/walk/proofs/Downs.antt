@@ -1,7 +1,7 @@
 -- One box of a walk.
-use Rattle.std.proofs.Common.{◌≡◌, ℕ, zero, suc, ◌+◌, ◌-◌, ◌*◌, ◌%◌, ◌^◌, ◌<◌, ◌≤◌, Bool, true, false, cond, not, ◌&&◌, List, [], ◌∷◌, ◌++◌, map, length, get_or, ℤ, pos, ◌+ℤ◌, ◌*ℤ◌, ◌≤ℤ◌, filter, sym, refl, ap, ◌∙◌, subst, ap₂, inl, inr, arith}
-use Rattle.std.specs.List.{ContainsAt as Has, between, AllByRecursion as All}
-use Rattle.std.proofs.ByRecursion.{All-get_or, All-from_get_or, all_kept_by, All-weaker, all-has}
+use Rattle.std.proofs.Common.{◌≡◌, ℕ, suc, ◌+◌, ◌*◌, ◌<◌, ◌≤◌, Bool, true, false, cond, not, ◌&&◌, List, [], ◌∷◌, ◌++◌, length, get_or, ℤ, pos, ◌+ℤ◌, ◌≤ℤ◌, sym, refl, ◌∙◌, arith}
+use Rattle.std.specs.List.{ContainsAt as Has, AllByRecursion as All}
+use Rattle.std.proofs.ByRecursion.{All-get_or, All-from_get_or}
 use Rattle.std.proofs.lemmas.List.{get_or-map, length-map, length-take-le, get_or-take}
 use Rattle.numbers.proofs.Ring.{lin}
 use Rattle.points.specs.declared.bounds.Bounds.{Bounds}
@@ -10,7 +10,6 @@ use Rattle.points.specs.Kinds.{position_place}
 use Rattle.grouping.specs.Boxes.{Inside, none, more}
 use Rattle.grouping.specs.Choice.{choose}
 use Rattle.grouping.specs.Distance.{Place, number}
-use Rattle.grouping.specs.Groups.{place_of}
 use Rattle.grouping.specs.Totals.{total}
 use Rattle.boxes.specs.declared.cut.Cut.{Cut}
 use Rattle.boxes.specs.Regions.{below, holds, contents, cut_at, Logged}

@@ -1,18 +1,17 @@
 -- What a whole walk has found is exact: nothing that a recording adds up to passes 64 bits.
-use Rattle.std.proofs.Common.{◌≡◌, ℕ, suc, ◌+◌, ◌*◌, ◌^◌, ◌<◌, ◌≤◌, List, [], ◌∷◌, map, length, get_or, ℤ, pos, ◌+ℤ◌, ◌≤ℤ◌, ◌<ℤ◌, sym, refl, ap, ◌∙◌, subst, ap₂, arith, w64, SFits}
+use Rattle.std.proofs.Common.{◌≡◌, ℕ, suc, ◌+◌, ◌<◌, ◌≤◌, List, [], ◌∷◌, map, length, get_or, ℤ, pos, ◌+ℤ◌, sym, refl, ap, ◌∙◌, subst, ap₂, arith, w64, SFits}
 use borrow.Author.Differences.{ints}
-use Rattle.std.specs.List.{ContainsAt as Has, AllByRecursion as All}
+use Rattle.std.specs.List.{AllByRecursion as All}
 use Rattle.std.specs.Int.{int_wrap}
 use Rattle.std.proofs.ByRecursion.{All-get_or, All-from_get_or, All-map, All-weaker}
 use Rattle.std.proofs.lemmas.List.{get_or-take, length-take-le}
 use Rattle.std.proofs.lemmas.Int.{int_wrap_fits, int_wrap-add_same}
 use Rattle.numbers.specs.Sums.{summed_from}
-use Rattle.numbers.proofs.Ring.{lin}
 use Rattle.points.specs.declared.position.Position.{Position}
 use Rattle.points.specs.Kinds.{position_place}
 use Rattle.points.specs.Told.{told_ranged}
 use Rattle.points.specs.Entries.{Entry}
-use Rattle.grouping.specs.Choice.{center, choose}
+use Rattle.grouping.specs.Choice.{choose}
 use Rattle.grouping.specs.Costs.{distortion, group_cost}
 use Rattle.grouping.specs.Distance.{Place, number}
 use Rattle.grouping.specs.Expansion.{norm}
@@ -28,7 +27,7 @@ use Rattle.grouping.proofs.Expansions.{group_by_axes}
 use Rattle.boxes.specs.declared.node.Tallies.{Tallies}
 use Rattle.boxes.specs.declared.run.Quantity.{Quantity}
 use Rattle.boxes.specs.declared.run.Quantity.TheVariants.{Weight, Sum, Squares}
-use Rattle.boxes.specs.Regions.{holds, contents}
+use Rattle.boxes.specs.Regions.{contents}
 use Rattle.boxes.specs.declared.cut.Cut.{Cut}
 use Rattle.boxes.proofs.Regions.{holds_root}
 use Rattle.boxes.specs.Tells.{measured}

@@ -1,5 +1,5 @@
 -- The three ways of a walk at a box: one candidate is left, the box is cut, or its records are looked at.
-use Rattle.std.proofs.Common.{◌≡◌, ℕ, ◌+◌, ◌-◌, ◌*◌, ◌%◌, ◌^◌, ◌<◌, ◌≤◌, List, ◌++◌, length, get_or, Some, None, sym, refl, ap, ◌∙◌, subst, arith}
+use Rattle.std.proofs.Common.{◌≡◌, ℕ, ◌+◌, ◌-◌, ◌*◌, ◌%◌, ◌^◌, ◌<◌, ◌≤◌, List, ◌++◌, length, get_or, None, ap, ◌∙◌, arith}
 use Rattle.std.specs.List.{ContainsAt as Has, between, AllByRecursion as All}
 use Rattle.std.proofs.ByRecursion.{all_kept_by}
 use Rattle.std.proofs.lemmas.List.{length-map}
@@ -20,7 +20,7 @@ use Rattle.pruning.specs.Positions.{lows, highs}
 use Rattle.pruning.specs.Pruning.{Left}
 use Rattle.pruning.specs.Rules.{Test}
 use Rattle.walk.specs.declared.tally.Tally.{Tally}
-use Rattle.walk.specs.Costs.{LeftAt, Costs, whole, opened, looked_at, Counted}
+use Rattle.walk.specs.Costs.{LeftAt, whole, opened, looked_at, Counted}
 use Rattle.walk.specs.Growth.{Credited, Grown, Covered}
 use Rattle.walk.proofs.Downs.{within_bounds, covered_left, covered_one, total_parts, all_parts}
 use Rattle.walk.proofs.Growing.{tally_of, grown_append, grown_whole, grown_same}

@@ -1,5 +1,5 @@
 -- What is written for the records of a run, and for those of a box.
-use Rattle.std.proofs.Common.{◌≡◌, ℕ, ◌+◌, ◌-◌, ◌*◌, ◌<◌, ◌≤◌, Bool, true, false, not, ◌&&◌, ltb, leb, List, [], ◌∷◌, ◌++◌, length, get_or, take, set, sym, refl, ap, ◌∙◌, subst, inl, inr, arith}
+use Rattle.std.proofs.Common.{◌≡◌, ℕ, ◌+◌, ◌-◌, ◌*◌, ◌<◌, ◌≤◌, true, not, ltb, leb, List, [], ◌∷◌, ◌++◌, length, get_or, take, set, sym, refl, ap, ◌∙◌, subst, inl, inr, arith}
 use Rattle.std.specs.List.{range_with_len, ContainsAt as Has, between, AllByRecursion as All}
 use Rattle.std.proofs.lemmas.List.FromFn.{get_or-range_with_len, length-range_with_len}
 use Rattle.std.proofs.lemmas.List.Edits.{length-between, get_or-between}
@@ -17,7 +17,7 @@ use Rattle.boxes.specs.Standing.{Agrees}
 use Rattle.boxes.specs.Table.{node_at}
 use Rattle.boxes.proofs.Regions.{children_hold}
 use Rattle.boxes.proofs.Sameness.{has_map}
-use Rattle.walk.specs.Assignments.{Written, chosen_by, AssignedIn}
+use Rattle.walk.specs.Assignments.{Written, AssignedIn}
 
 -- ---- a run, one record after the other
 

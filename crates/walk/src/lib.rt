@@ -1,4 +1,6 @@
 // Walks down the boxes of a recording: what each center gets, and which center each record belongs to.
+#![tactic(auto)]
+
 pub mod assign;
 pub mod found;
 pub mod length_fault;

@@ -1,7 +1,7 @@
 use Rattle.std.proofs.Common.{◌≤◌, length, sym, refl, ◌∙◌, subst}
 use Rattle.std.proofs.lemmas.List.{take_all, length-map}
 use Rattle.points.specs.Entries.{entries}
-use Rattle.grouping.specs.Groups.{centers, places, place_of, Tallied}
+use Rattle.grouping.specs.Groups.{places, place_of, Tallied}
 use Rattle.direct.proofs.Assigning.{tallied_none, record_room, record_joins, record_none}
 use Rattle.direct.proofs.tally.assign.Goals as goal
 use Rattle.direct.proofs.tally.assign.Goals.{in-Some, in_default}

@@ -1,4 +1,4 @@
-use Rattle.std.proofs.Common.{◌≡◌, refl}
+use Rattle.std.proofs.Common.{refl}
 use Rattle.std.proofs.lemmas.Result.{err_from_is_err_and}
 use Rattle.reader.specs.Steps.{next_bytes}
 use Rattle.files.proofs.Outcomes.{read_all, read_empty, read_stopped, read_unnamed}

@@ -1,4 +1,4 @@
-use Rattle.std.proofs.Common.{true, false, sym, ap, subst}
+use Rattle.std.proofs.Common.{sym, ap, subst}
 use Rattle.rows.specs.declared.kind.FileKind.TheVariants.{DriveRecords, TelegramRecords}
 use Rattle.program.specs.Answers.{Settles}
 use Rattle.program.specs.Inputs.{bytes_of}

@@ -1,9 +1,9 @@
-use Rattle.std.proofs.Common.{◌≡◌, sym, refl, ap, ◌∙◌, subst, arith, rules, ltb-false, ltb-true}
+use Rattle.std.proofs.Common.{sym, refl, subst, arith, ltb-false, ltb-true}
 use Rattle.std.proofs.lemmas.Result.{err_from_is_err_and}
 use Rattle.value.specs.Spelling.{Spells, Writes}
 use Rattle.std.proofs.lemmas.List.{take_rest}
 use Rattle.std.proofs.lemmas.Int.{ints}
-use Rattle.value.proofs.Shapes.{zero_spells, plain_spells, minus_spells, no_shape, some_of, first_of, digit_of}
+use Rattle.value.proofs.Shapes.{zero_spells, minus_spells, no_shape, some_of, first_of, digit_of}
 use Rattle.value.proofs.spelling.read_value.Goals as goal
 
 pub returns-in_err-magnitude-in-49-to-57 : goal.returns-in_err-magnitude-in-49-to-57

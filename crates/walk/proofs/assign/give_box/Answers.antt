@@ -1,8 +1,8 @@
-use Rattle.std.proofs.Common.{◌≡◌, ◌<◌, length, get_or, refl, ap, ◌∙◌, subst, arith}
+use Rattle.std.proofs.Common.{◌<◌, length, refl, ◌∙◌, subst, arith}
 use Rattle.std.proofs.ByRecursion.{All-get_or}
 use Rattle.std.proofs.lemmas.List.{take_all}
 use Rattle.walk.specs.Assignments.{Written}
-use Rattle.walk.proofs.Writing.{written_none, written_more}
+use Rattle.walk.proofs.Writing.{written_more}
 use Rattle.walk.proofs.assign.give_box.Goals as goal
 
 pub bounds-out-i : goal.bounds-out-i

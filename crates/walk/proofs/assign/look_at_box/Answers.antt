@@ -1,11 +1,10 @@
-use Rattle.std.proofs.Common.{◌≡◌, ◌+◌, ◌<◌, length, get_or, take, sym, refl, ap, ◌∙◌, subst, ap₂, arith}
+use Rattle.std.proofs.Common.{◌≡◌, ◌<◌, length, get_or, sym, ap, ◌∙◌, subst, arith}
 use Rattle.std.specs.List.{AllByRecursion as All}
 use Rattle.std.proofs.ByRecursion.{All-get_or}
 use Rattle.std.proofs.lemmas.List.{take_all}
 use Rattle.points.specs.Entries.{entry, entries}
 use Rattle.grouping.specs.Choice.{choose}
 use Rattle.boxes.specs.Runs.{picked}
-use Rattle.boxes.specs.Standing.{entries_of}
 use Rattle.boxes.proofs.Picking.{entry_of}
 use Rattle.pruning.specs.Candidates.{listed, among}
 use Rattle.walk.specs.Assignments.{Written, chosen_by}

@@ -1,8 +1,7 @@
-use Rattle.std.proofs.Common.{◌≡◌, ℕ, ◌<◌, ◌≤◌, length, take, ℤ, pos, ◌+ℤ◌, sym, refl, ap, ◌∙◌, subst, ap₂, arith, w64, to_z, of_z, rules}
+use Rattle.std.proofs.Common.{◌≡◌, ℕ, ◌<◌, take, ℤ, pos, ◌+ℤ◌, sym, refl, ap, ◌∙◌, arith, w64, to_z, of_z, rules}
 use Rattle.std.specs.Int.{int_wrap}
 use Rattle.points.specs.Kinds.{position_place}
 use Rattle.grouping.specs.Distance.{number}
-use Rattle.grouping.specs.Groups.{place_of}
 use Rattle.grouping.specs.Rounding.{axis_cost}
 use Rattle.walk.specs.Told.{cost_of}
 use Rattle.walk.proofs.Adding.{stored, wrapped_twice}

@@ -1,4 +1,4 @@
-use Rattle.std.proofs.Common.{◌≡◌, ℕ, ◌<◌, ◌≤◌, [], length, get_or, take, ℤ, pos, ◌+ℤ◌, sym, refl, ap, ◌∙◌, subst, ap₂, arith, w64, to_z, of_z, rules}
+use Rattle.std.proofs.Common.{◌≡◌, ℕ, ◌<◌, [], length, get_or, ℤ, pos, ◌+ℤ◌, sym, refl, ap, ◌∙◌, arith, w64, to_z, of_z}
 use Rattle.std.specs.Int.{int_wrap}
 use Rattle.std.proofs.lemmas.Int.{to_z-of_z}
 use Rattle.std.proofs.lemmas.List.{get_or-map, length-map, take_all}
@@ -6,7 +6,6 @@ use Rattle.numbers.specs.Sums.{summed_from}
 use Rattle.grouping.specs.Distance.{Place}
 use Rattle.grouping.specs.Groups.{place_of}
 use Rattle.pruning.specs.Centers.{positions_of, centers_of}
-use Rattle.pruning.specs.Positions.{position_at}
 use Rattle.walk.specs.Told.{tallies_at, cost_of}
 use Rattle.walk.proofs.Adding.{stored}
 use Rattle.walk.proofs.Costing.{turn_wrapped, no_base}

@@ -1,4 +1,4 @@
-use Rattle.std.proofs.Common.{◌≡◌, ◌<◌, length, sym, ap, ◌∙◌, subst, arith}
+use Rattle.std.proofs.Common.{◌<◌, length, subst, arith}
 use Rattle.std.proofs.ByRecursion.{all-has}
 use Rattle.grouping.specs.Groups.{place_of}
 use Rattle.pruning.specs.Candidates.{listed, among}

@@ -1,7 +1,6 @@
-use Rattle.std.proofs.Common.{◌≡◌, length, sym, ap, ◌∙◌, subst, ap₂}
+use Rattle.std.proofs.Common.{◌≡◌, length, ap, subst}
 use Rattle.std.specs.List.{ContainsAt as Has, AllByRecursion as All}
 use Rattle.std.proofs.ByRecursion.{All-map}
-use Rattle.points.specs.declared.bounds.Bounds.{Bounds}
 use Rattle.points.specs.Entries.{entry}
 use Rattle.grouping.proofs.Totals.{all_of}
 use Rattle.grouping.specs.Boxes.{Inside}

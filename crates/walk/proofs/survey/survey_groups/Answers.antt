@@ -1,4 +1,4 @@
-use Rattle.std.proofs.Common.{◌≡◌, ℕ, ◌+◌, ◌*◌, ◌^◌, ◌<◌, ◌≤◌, length, pos, ◌≤ℤ◌, sym, refl, ap, ◌∙◌, subst, ap₂, arith, w64, SFits}
+use Rattle.std.proofs.Common.{◌≡◌, ℕ, ◌<◌, ◌≤◌, length, sym, ap, ◌∙◌, subst, arith, w64, SFits}
 use borrow.Author.Differences.{ints}
 use Rattle.std.proofs.lemmas.List.{length-map, length-take-le}
 use Rattle.points.specs.Entries.{entry}
@@ -18,7 +18,7 @@ use Rattle.std.proofs.lemmas.Int.{to_z-of_z}
 use Rattle.pruning.specs.Candidates.{listed, among}
 use Rattle.pruning.specs.Centers.{positions_of, centers_of}
 use Rattle.pruning.specs.Pruning.{numbers_of}
-use Rattle.pruning.proofs.Listed.{length_centers, length_listed}
+use Rattle.pruning.proofs.Listed.{length_centers}
 use Rattle.walk.specs.Costs.{Costs, Counted}
 use Rattle.walk.specs.Growth.{Covered, Grown}
 use Rattle.walk.proofs.Exactness.{contents_all, covered_all, weight_exact, sum_exact, distortion_exact, centers_fit}

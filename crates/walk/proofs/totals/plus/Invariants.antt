@@ -1,4 +1,4 @@
-use Rattle.std.proofs.Common.{◌≡◌, ℕ, ◌<◌, ◌≤◌, length, pos, ◌+ℤ◌, w64}
+use Rattle.std.proofs.Common.{◌≡◌, ℕ, ◌<◌, length, ◌+ℤ◌, w64}
 use Rattle.std.specs.Int.{int_wrap}
 use Rattle.grouping.specs.Distance.{number}
 use Rattle.walk.proofs.totals.plus.Given as goal

@@ -1,5 +1,5 @@
-use Rattle.std.proofs.Common.{◌≡◌, ◌<◌, ◌≤◌, length, sym, refl, ap, ◌∙◌, subst, arith}
-use Rattle.std.specs.List.{between, AllByRecursion as All}
+use Rattle.std.proofs.Common.{ap, arith}
+use Rattle.std.specs.List.{between}
 use Rattle.boxes.proofs.Orders.{run_known}
 use Rattle.boxes.proofs.table.BoxTable.run.Goals as goal
 
