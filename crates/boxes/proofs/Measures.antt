@@ -1,7 +1,7 @@
 -- Quantities of records: how large they are, and their totals.
 use Rattle.std.proofs.Common.{◌≡◌, ℕ, ◌+◌, ◌*◌, ◌<◌, ◌≤◌, List, [], ◌∷◌, ◌++◌, length, get_or, take, ℤ, pos, ◌+ℤ◌, ◌*ℤ◌, neg_ℤ, ◌≤ℤ◌, sym, refl, ap, ◌∙◌, subst, mul-le-mul_right, arith, w64, SFits, to_z, of_z}
 use borrow.Author.Differences.{ints, fits_in}
-use Rattle.std.specs.List.{AllByRecursion as All}
+use Rattle.std.specs.List.{AllByRecursion}
 use Rattle.std.proofs.lemmas.List.{map_more}
 use Rattle.std.proofs.lemmas.Int.{to_z-of_z, to_z_pos}
 use Rattle.points.specs.Entries.{Entry}
@@ -17,7 +17,7 @@ use Rattle.boxes.specs.Runs.{entry_at, picked}
 
 -- ---- the squared distance from zero
 
-pub dist_zero : (p zs : Place) → length p ≤ length zs → All (λ z. z ≡ pos 0) zs → dist p zs ≡ norm p
+pub dist_zero : (p zs : Place) → length p ≤ length zs → AllByRecursion (λ z. z ≡ pos 0) zs → dist p zs ≡ norm p
 dist_zero [] zs l a = refl
 dist_zero (x ∷ p) [] l a = absurd (omega arith)
 dist_zero (x ∷ p) (z ∷ zs) l a =

@@ -1,6 +1,6 @@
 -- The order of the table, as a part of it is put into another order.
 use Rattle.std.proofs.Common.{◌≡◌, ℕ, ◌+◌, ◌-◌, ◌<◌, ◌≤◌, List, [], ◌∷◌, ◌++◌, length, get_or, take, sym, ap, ◌∙◌, subst, ap₂, inl, inr, append_assoc, append-nil, arith}
-use Rattle.std.specs.List.{between, AllByRecursion as All}
+use Rattle.std.specs.List.{between, AllByRecursion}
 use Rattle.std.specs.List.Sorted.{IsPermutation}
 use Rattle.std.proofs.lemmas.List.Edits.{split_between, length-between, get_or-between}
 use Rattle.std.proofs.ByRecursion.{All-from_get_or, has_get_or, has_shuffled}
@@ -13,7 +13,7 @@ use Rattle.boxes.specs.Runs.{Reordered}
 use Rattle.boxes.specs.Table.{Known}
 use Rattle.boxes.proofs.Sameness.{between_take}
 
-pub run_known : (order : List ℕ) (n from to : ℕ) → Known order n → to ≤ n → n ≤ length order → All (λ i. i < n) (between from to order)
+pub run_known : (order : List ℕ) (n from to : ℕ) → Known order n → to ≤ n → n ≤ length order → AllByRecursion (λ i. i < n) (between from to order)
 run_known order n from to k l long =
     All-from_get_or (λ i. i < n) (between from to order) 0
     (λ i h. let m : from + i < to = omega (arith, length-between order from to (omega arith)) in subst (λ x. x < n) (sym (get_or-between order from to i 0 m)) (k (from + i) (omega arith)))

@@ -1,6 +1,6 @@
 -- The turns of the loop that parts a run.
 use Rattle.std.proofs.Common.{◌≡◌, ℕ, ◌+◌, ◌≤◌, Bool, true, false, cond, List, [], ◌∷◌, length, get_or, take, drop, filter, sym, refl, ap, ◌∙◌, subst, inl, inr, arith, length-append, length-drop}
-use Rattle.std.specs.List.{AllByRecursion as All}
+use Rattle.std.specs.List.{AllByRecursion}
 use Rattle.std.specs.List.Sorted.{IsPermutation}
 use Rattle.std.proofs.lemmas.List.Sorted.{IsPermutation-refl, IsPermutation-trans, sum_by-IsPermutation}
 use Rattle.std.proofs.lemmas.List.Sums.{length-filter}
@@ -47,11 +47,11 @@ module _ (es : List Entry) (v : Cut) (ns ms : List ℕ) (k i : ℕ) (p : Parted 
 
 -- ---- how many lie below
 
-length_kept : (t : ℕ → Bool) (xs : List ℕ) → All (λ x. t x ≡ true) xs → length (filter t xs) ≡ length xs
+length_kept : (t : ℕ → Bool) (xs : List ℕ) → AllByRecursion (λ x. t x ≡ true) xs → length (filter t xs) ≡ length xs
 length_kept t [] a = refl
 length_kept t (x ∷ xs) a = rw a.0 (omega (arith, length_kept t xs a.1))
 
-length_left_out : (t : ℕ → Bool) (xs : List ℕ) → All (λ x. t x ≡ false) xs → length (filter t xs) ≡ 0
+length_left_out : (t : ℕ → Bool) (xs : List ℕ) → AllByRecursion (λ x. t x ≡ false) xs → length (filter t xs) ≡ 0
 length_left_out t [] a = refl
 length_left_out t (x ∷ xs) a = rw a.0 (length_left_out t xs a.1)
 

@@ -1,6 +1,6 @@
 -- Lists with the same elements, each as often: what the run of a box is to the entries of the box.
 use Rattle.std.proofs.Common.{◌≡◌, ℕ, zero, suc, ◌+◌, ◌-◌, ◌<◌, ◌≤◌, Bool, true, false, cond, ◌&&◌, ltb, leb, List, [], ◌∷◌, ◌++◌, map, length, get_or, take, drop, ℤ, pos, ◌+ℤ◌, ◌*ℤ◌, ◌≤ℤ◌, filter, sym, refl, ap, ◌∙◌, subst, arith}
-use Rattle.std.specs.List.{range_with_len, ContainsAt as Has, between, AllByRecursion as All}
+use Rattle.std.specs.List.{range_with_len, ContainsAt as Has, between, AllByRecursion}
 use Rattle.std.specs.List.Sorted.{IsPermutation}
 use Rattle.std.proofs.lemmas.List.FromFn.{fill_by_all, get_or-range_with_len, length-range_with_len}
 use Rattle.std.proofs.lemmas.List.Edits.{split_between, length-between, get_or-between}
@@ -24,17 +24,17 @@ use Rattle.boxes.specs.Tells.{measured, numbers_on, BoundsOf, TalliesOf}
 -- the same elements, each as often: every sum over them is the same
 pub record Same {X : Type 0} (xs ys : List X) : Type 0 where
   pub sums : (f : X → ℤ) → summed f xs ≡ summed f ys
-  pub there : All (Has ys) xs
-  pub back : All (Has xs) ys
+  pub there : AllByRecursion (Has ys) xs
+  pub back : AllByRecursion (Has xs) ys
 
 pub same_refl : {X : Type 0} (xs : List X) → Same xs xs
 same_refl xs = record { sums = λ f. refl; there = all_has_itself xs; back = all_has_itself xs }
 
 -- what holds of each of the ones holds of each of the others
-pub all_same : {X : Type 0} (P : X → Type 0) (xs ys : List X) → Same xs ys → All P ys → All P xs
+pub all_same : {X : Type 0} (P : X → Type 0) (xs ys : List X) → Same xs ys → AllByRecursion P ys → AllByRecursion P xs
 all_same P xs ys s a = All-weaker (Has ys) P (λ x h. all-has P ys x a h) xs s.there
 
-pub all_back : {X : Type 0} (P : X → Type 0) (xs ys : List X) → Same xs ys → All P xs → All P ys
+pub all_back : {X : Type 0} (P : X → Type 0) (xs ys : List X) → Same xs ys → AllByRecursion P xs → AllByRecursion P ys
 all_back P xs ys s a = All-weaker (Has xs) P (λ x h. all-has P xs x a h) ys s.back
 
 has_same : {X : Type 0} (xs ys : List X) (x : X) → Same xs ys → Has ys x → Has xs x
@@ -54,11 +54,11 @@ summed_kept t f (x ∷ xs) = one (t x) (summed_kept t f xs)
     one true e = ap (λ z. f x +ℤ z) e
     one false e = omega (arith, lin, e)
 
-summed_all : {X : Type 0} (t : X → Bool) (f : X → ℤ) (xs : List X) → All (λ x. t x ≡ true) xs → summed (λ x. cond (t x) (f x) (pos 0)) xs ≡ summed f xs
+summed_all : {X : Type 0} (t : X → Bool) (f : X → ℤ) (xs : List X) → AllByRecursion (λ x. t x ≡ true) xs → summed (λ x. cond (t x) (f x) (pos 0)) xs ≡ summed f xs
 summed_all t f [] a = refl
 summed_all t f (x ∷ xs) a = rw (a.0, summed_all t f xs a.1)
 
-summed_no : {X : Type 0} (t : X → Bool) (f : X → ℤ) (xs : List X) → All (λ x. t x ≡ false) xs → summed (λ x. cond (t x) (f x) (pos 0)) xs ≡ pos 0
+summed_no : {X : Type 0} (t : X → Bool) (f : X → ℤ) (xs : List X) → AllByRecursion (λ x. t x ≡ false) xs → summed (λ x. cond (t x) (f x) (pos 0)) xs ≡ pos 0
 summed_no t f [] a = refl
 summed_no t f (x ∷ xs) a = rw (a.0, summed_no t f xs a.1) (omega (arith, lin))
 
@@ -193,16 +193,16 @@ module _ (es : List Entry) (order : List ℕ) (t : Entry → Bool) (from to : �
           let same : from + (j - from) ≡ j = omega arith in
           subst (Has (picked es (between from to order))) (picked_at (j - from) k ∙ ap (λ x. entry_at es (get_or order x 0)) same ∙ ap (entry_at es) is) (has_get_or (picked es (between from to order)) (j - from) nothing (omega (arith, picked_length)))
 
-      there : All (Has (picked es (between from to order))) (filter t es)
+      there : AllByRecursion (Has (picked es (between from to order))) (filter t es)
       there =
           all_both (filter t es) (kept_by_passes t es)
           (all_kept_by t (λ e. t e ≡ true → Has (picked es (between from to order)) e) es (All-from_get_or (λ e. t e ≡ true → Has (picked es (between from to order)) e) es nothing found))
         where
-          all_both : (fs : List Entry) → All (λ e. t e ≡ true) fs → All (λ e. t e ≡ true → Has (picked es (between from to order)) e) fs → All (Has (picked es (between from to order))) fs
+          all_both : (fs : List Entry) → AllByRecursion (λ e. t e ≡ true) fs → AllByRecursion (λ e. t e ≡ true → Has (picked es (between from to order)) e) fs → AllByRecursion (Has (picked es (between from to order))) fs
           all_both [] a b = tt
           all_both (e ∷ fs) a b = (b.0 a.0, all_both fs a.1 b.1)
 
-      back : All (Has (filter t es)) (picked es (between from to order))
+      back : AllByRecursion (Has (filter t es)) (picked es (between from to order))
       back =
           All-from_get_or (Has (filter t es)) (picked es (between from to order)) nothing
           (λ k l. let l' : k < to - from = omega (arith, picked_length) in subst (Has (filter t es)) (sym (picked_at k l')) (has_kept t es (entry_at es (get_or order (from + k) 0)) (has_get_or es (get_or order (from + k) 0) nothing (order_below (from + k) (omega arith))) (inside (from + k) (omega arith) (omega arith))))

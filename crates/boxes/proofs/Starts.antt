@@ -1,6 +1,6 @@
 -- The table before the first cut.
 use Rattle.std.proofs.Common.{◌≡◌, ℕ, ◌<◌, ◌≤◌, ◌&&◌, ltb, leb, List, [], ◌∷◌, length, get_or, take, Some, None, sym, refl, ap, ◌∙◌, subst, arith}
-use Rattle.std.specs.List.{range_with_len, AllByRecursion as All}
+use Rattle.std.specs.List.{range_with_len, AllByRecursion}
 use Rattle.std.specs.List.Sorted.{IsPermutation}
 use Rattle.std.proofs.lemmas.List.FromFn.{get_or-range_with_len, length-range_with_len}
 use Rattle.std.proofs.ByRecursion.{All-from_get_or}
@@ -29,8 +29,8 @@ module _ (order : List ℕ) (long : length order ≡ 4096) (each : (k : ℕ) →
       ext_get_or 0 (take n order) (range_with_len 0 n) (l ∙ sym (length-range_with_len 0 n))
       (λ i h. let k : i < n = omega arith in omega (arith, get_or-take n order i 0 k, each i (omega arith), get_or-range_with_len 0 n i 0 k))
 
-  pub in_order_known : All (λ i. i < n) (take n order)
-  in_order_known = subst (All (λ i. i < n)) (sym in_order) (All-from_get_or (λ i. i < n) (range_with_len 0 n) 0 (λ i h. let l : i < n = omega (arith, length-range_with_len 0 n) in omega (arith, get_or-range_with_len 0 n i 0 l)))
+  pub in_order_known : AllByRecursion (λ i. i < n) (take n order)
+  in_order_known = subst (AllByRecursion (λ i. i < n)) (sym in_order) (All-from_get_or (λ i. i < n) (range_with_len 0 n) 0 (λ i h. let l : i < n = omega (arith, length-range_with_len 0 n) in omega (arith, get_or-range_with_len 0 n i 0 l)))
 
 -- the table with one box
 module _ (es : List Entry) (ns : List BoxNode) (order : List ℕ) (root : BoxNode) (is : node_at ns 0 ≡ root) (numbers : take (length es) order ≡ range_with_len 0 (length es))

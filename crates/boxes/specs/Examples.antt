@@ -1,6 +1,6 @@
 -- Cuts worked by hand.
 use Rattle.std.specs.Prelude.{◌≡◌, ℕ, List, [], ◌∷◌, pos, Some, None, Option}
-use Rattle.std.specs.List.{AllByRecursion as All}
+use Rattle.std.specs.List.{AllByRecursion}
 use Rattle.points.specs.Entries.{Entry}
 use Rattle.grouping.specs.Examples.{pair, entry_of}
 use Rattle.boxes.specs.declared.cut.Cut.{Cut}
@@ -33,7 +33,7 @@ at_first value refused = record { cuts = []; cut = cut_by 0 0 (pos value); refus
 -- from 101 to 112 there is an entry on both sides; there is no third axis; and what is cut is not cut again
 abbrev pub WorkedFigures : Type 0
 WorkedFigures =
-    All Right
+    AllByRecursion Right
     (at_first 101 None
     ∷ at_first 112 None
     ∷ at_first 100 (Some OneSided)

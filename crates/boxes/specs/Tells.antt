@@ -1,6 +1,6 @@
 -- What a box tells of its entries.
 use Rattle.std.specs.Prelude.{◌≡◌, ℕ, ◌<◌, List, map, ℤ, pos, ◌≤ℤ◌}
-use Rattle.std.specs.List.{ContainsAt as Has, AllByRecursion as All}
+use Rattle.std.specs.List.{ContainsAt as Has, AllByRecursion}
 use Rattle.points.specs.declared.bounds.Bounds.{Bounds}
 use Rattle.points.specs.Kinds.{position_place}
 use Rattle.points.specs.Entries.{Entry}
@@ -24,12 +24,12 @@ numbers_on axis es = map (λ e. number e.place axis) es
 -- z is the least of the numbers that the entries have on the axis
 pub record Lowest (axis : ℕ) (es : List Entry) (z : ℤ) : Type 0 where
   pub one_of : Has (numbers_on axis es) z
-  pub below : All (λ x. z ≤ℤ x) (numbers_on axis es)
+  pub below : AllByRecursion (λ x. z ≤ℤ x) (numbers_on axis es)
 
 -- z is the greatest
 pub record Highest (axis : ℕ) (es : List Entry) (z : ℤ) : Type 0 where
   pub one_of : Has (numbers_on axis es) z
-  pub above : All (λ x. x ≤ℤ z) (numbers_on axis es)
+  pub above : AllByRecursion (λ x. x ≤ℤ z) (numbers_on axis es)
 
 -- the bounds are those of the entries, on all four axes: 0 on those that the entries have not
 pub record BoundsOf (es : List Entry) (bounds : Bounds) : Type 0 where

@@ -1,6 +1,6 @@
 // Reading a table.
 ghost use Rattle.std.specs.Prelude.{◌≡◌, ℕ, ◌+◌, ◌*◌, ◌<◌, ◌≤◌, length, Some};
-ghost use Rattle.std.specs.List.{between, AllByRecursion as All};
+ghost use Rattle.std.specs.List.{between, AllByRecursion};
 ghost use Rattle.boxes.specs.Regions.{boxes_after};
 ghost use Rattle.boxes.specs.Standing.{cuts_of};
 ghost use Rattle.boxes.specs.Table.{node_at};
@@ -42,7 +42,7 @@ impl<'a, R> BoxTable<'a, R> {
     pub fn run(&self, b: usize) -> &[u16]
         ensures is { b < boxes_after (cuts_of self.now) → result.now ≡ between (node_at self.now.nodes b).from (node_at self.now.nodes b).to self.now.order }
         ensures past { boxes_after (cuts_of self.now) ≤ b → result.now ≡ between (node_at self.now.nodes 0).from (node_at self.now.nodes 0).to self.now.order }
-        ensures known { All (λ i. i < length self.now.recording.records.now) result.now }
+        ensures known { AllByRecursion (λ i. i < length self.now.recording.records.now) result.now }
     {
         let node = self.node(b);
         let (from, to) = (node.from, node.to);

@@ -1,6 +1,6 @@
 // The table of a recording before the first cut.
 ghost use Rattle.std.specs.Prelude.{◌≡◌, ℕ, ◌<◌, ◌≤◌, [], length, None, slice_index};
-ghost use Rattle.std.specs.List.{AllByRecursion as All};
+ghost use Rattle.std.specs.List.{AllByRecursion};
 ghost use Rattle.points.specs.Entries.{entries};
 ghost use Rattle.boxes.specs.Runs.{picked};
 ghost use Rattle.boxes.specs.Standing.{Stands, cuts_of};
@@ -18,7 +18,7 @@ use points::recording::Recording;
 
 // An uncut box with the records of a run.
 pub(crate) fn uncut_box<R: Record>(records: &[R], run: &[u16], from: usize, to: usize) -> BoxNode
-    requires known { All (λ n. n < length records.now) run.now }
+    requires known { AllByRecursion (λ n. n < length records.now) run.now }
     requires some { 0 < length run.now }
     requires few { length run.now ≤ 4096 }
     ensures from { result.from ≡ from }

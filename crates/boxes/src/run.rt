@@ -1,6 +1,6 @@
 // Functions over a run: a part of the order of the table, which has the numbers of some records.
 ghost use Rattle.std.specs.Prelude.{◌≡◌, ◌*◌, ◌<◌, ◌≤◌, length, pos, ◌*ℤ◌, neg_ℤ, ◌≤ℤ◌, filter};
-ghost use Rattle.std.specs.List.{AllByRecursion as All};
+ghost use Rattle.std.specs.List.{AllByRecursion};
 ghost use Rattle.points.specs.Entries.{entries};
 ghost use Rattle.grouping.specs.Totals.{total};
 ghost use Rattle.grouping.specs.Distance.{number};
@@ -32,7 +32,7 @@ pub(crate) fn is_below<R: Record>(records: &[R], i: u16, cut: &Cut) -> bool
 
 // Moves the numbers of the records below the value of the cut to the front of the run; how many those are.
 pub(crate) fn part<R: Record>(run: &mut [u16], records: &[R], cut: &Cut) -> usize
-    requires { All (λ n. n < length records.now) run.old }
+    requires { AllByRecursion (λ n. n < length records.now) run.old }
     ensures { Parted (entries R.Point R.Record.own records.now) cut.now run.old run.new result (length run.old) }
 {
     let mut k = 0;
@@ -80,7 +80,7 @@ pub fn amount<R: Record>(r: &R, quantity: &Quantity) -> i64
 
 // The quantity of all records of the run.
 fn total_of<R: Record>(records: &[R], run: &[u16], quantity: &Quantity) -> i64
-    requires known { All (λ n. n < length records.now) run.now }
+    requires known { AllByRecursion (λ n. n < length records.now) run.now }
     requires few { length run.now ≤ 4096 }
     ensures { result ≡ total (measured quantity.now) (picked (entries R.Point R.Record.own records.now) run.now) }
 {
@@ -93,7 +93,7 @@ fn total_of<R: Record>(records: &[R], run: &[u16], quantity: &Quantity) -> i64
 
 // What the records of the run add up to.
 pub(crate) fn tallies_of<R: Record>(records: &[R], run: &[u16]) -> Tallies
-    requires known { All (λ n. n < length records.now) run.now }
+    requires known { AllByRecursion (λ n. n < length records.now) run.now }
     requires few { length run.now ≤ 4096 }
     ensures { TalliesOf (picked (entries R.Point R.Record.own records.now) run.now) result }
 {
@@ -117,7 +117,7 @@ struct AxisRange {
 
 // Those of the records of the run on axis a.
 fn range_on<R: Record>(records: &[R], run: &[u16], a: usize) -> AxisRange
-    requires known { All (λ n. n < length records.now) run.now }
+    requires known { AllByRecursion (λ n. n < length records.now) run.now }
     requires some { 0 < length run.now }
     ensures low { Lowest a (picked (entries R.Point R.Record.own records.now) run.now) result.least }
     ensures high { Highest a (picked (entries R.Point R.Record.own records.now) run.now) result.greatest }
@@ -134,7 +134,7 @@ fn range_on<R: Record>(records: &[R], run: &[u16], a: usize) -> AxisRange
 
 // The bounds of the records of the run.
 pub(crate) fn bounds_of<R: Record>(records: &[R], run: &[u16]) -> Bounds
-    requires known { All (λ n. n < length records.now) run.now }
+    requires known { AllByRecursion (λ n. n < length records.now) run.now }
     requires some { 0 < length run.now }
     ensures { BoundsOf (picked (entries R.Point R.Record.own records.now) run.now) result }
 {
@@ -153,7 +153,7 @@ pub(crate) fn bounds_of<R: Record>(records: &[R], run: &[u16]) -> Bounds
 
 // How many records of the run lie below the value of the cut.
 pub(crate) fn count_below<R: Record>(records: &[R], run: &[u16], cut: &Cut) -> usize
-    requires { All (λ n. n < length records.now) run.now }
+    requires { AllByRecursion (λ n. n < length records.now) run.now }
     ensures { result ≡ length (filter (under (entries R.Point R.Record.own records.now) cut.now) run.now) }
 {
     let mut n = 0;

@@ -1,6 +1,6 @@
 -- A file has one outcome: it is cut at its line ends in one way, and what follows its right rows is said in one way.
 use Rattle.std.proofs.Common.{◌≡◌, ℕ, zero, suc, ◌+◌, ◌<◌, ◌≤◌, List, [], ◌∷◌, ◌++◌, map, length, get_or, take, ℤ, pos, Some, None, Ok, Err, Option, Result, sym, refl, ap, ◌∙◌, subst, append_assoc, append-nil, arith}
-use Rattle.std.specs.List.{AllByRecursion as All}
+use Rattle.std.specs.List.{AllByRecursion}
 use Rattle.std.specs.Fmt.{signed_decimal}
 use Rattle.std.proofs.lemmas.List.{length-append, length-map, length-take-le}
 use Rattle.reader.specs.Fields.{Lacks, commas, fields_of}
@@ -89,7 +89,7 @@ module _ (kind : FileKind) (order : List ℕ) (room : ℕ) where
     next : (row : List ℤ) (rows : List (List ℤ)) (rest : List ℕ) → lines_of order (row ∷ rows) ++ rest ≡ line_of (cells_in order row) ++ (lines_of order rows ++ rest)
     next row rows rest = append_assoc (line_of (cells_in order row)) (lines_of order rows) rest
 
-    one_end : (n : ℕ) (rows others : List (List ℤ)) (rest rest' : List ℕ) (said other : Option FileFault) → All (Fits kind) rows → All (Fits kind) others → n + length rows ≤ most kind room → n + length others ≤ most kind room → lines_of order rows ++ rest ≡ lines_of order others ++ rest' → Ending kind order room (n + length rows) rest said → Ending kind order room (n + length others) rest' other → (rows ≡ others) × (said ≡ other)
+    one_end : (n : ℕ) (rows others : List (List ℤ)) (rest rest' : List ℕ) (said other : Option FileFault) → AllByRecursion (Fits kind) rows → AllByRecursion (Fits kind) others → n + length rows ≤ most kind room → n + length others ≤ most kind room → lines_of order rows ++ rest ≡ lines_of order others ++ rest' → Ending kind order room (n + length rows) rest said → Ending kind order room (n + length others) rest' other → (rows ≡ others) × (said ≡ other)
     one_end n [] [] rest rest' said other a b l m e h h' = (refl, one_ending (n + 0) rest' said other (subst (λ t. Ending kind order room (n + 0) t said) e h) h')
     one_end n [] (q ∷ qs) rest rest' said other a b l m e h h' = absurd (goes_further (n + 0) rest (lines_of order qs ++ rest') q said b.0 (omega arith) (e ∙ next q qs rest') h)
     one_end n (r ∷ rs) [] rest rest' said other a b l m e h h' = absurd (goes_further (n + 0) rest' (lines_of order rs ++ rest) r other a.0 (omega arith) (sym e ∙ next r rs rest) h')

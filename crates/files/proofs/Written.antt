@@ -1,7 +1,7 @@
 -- The row of a line, and the rows in a table.
 use Rattle.std.proofs.Common.{◌≡◌, ℕ, zero, suc, ◌+◌, ◌<◌, ◌≤◌, min, Bool, true, false, cond, List, [], ◌∷◌, ◌++◌, map, length, get_or, take, drop, set, ℤ, pos, Some, Ok, Err, Decides, Result, sym, refl, ap, ◌∙◌, subst, append_assoc, arith}
 use borrow.Author.Tests.{clash}
-use Rattle.std.specs.List.{AllByRecursion as All}
+use Rattle.std.specs.List.{AllByRecursion}
 use Rattle.std.proofs.ByRecursion.{All-push}
 use Rattle.std.proofs.lemmas.List.{ext_get_or, get_or-take, take_more_set, flat_map_more, drop-set-lt, drop-drop, map_push, length-append}
 use Rattle.std.proofs.lemmas.Int.{ints, clamps}
@@ -65,7 +65,7 @@ module _ {R : Type 0} (kind : FileKind) (fields : R → List ℤ) (order : List 
       record {
         room = omega arith;
         text = h.text ∙ ap (λ t. lines_of order (map fields (take n new)) ++ t) line ∙ sym (append_assoc (lines_of order (map fields (take n new))) (written (fields row)) after) ∙ ap (λ t. t ++ after) (flat_map_more written [] (map fields (take n new)) (fields row)) ∙ ap (λ rs. lines_of order rs ++ after) (sym is);
-        fits = subst (All (Fits kind)) (sym is) (All-push (Fits kind) (map fields (take n new)) (fields row) h.fits fit);
+        fits = subst (AllByRecursion (Fits kind)) (sym is) (All-push (Fits kind) (map fields (take n new)) (fields row) h.fits fit);
         others = drop-set-lt (n + 1) new n row (omega arith) ∙ sym (drop-drop 1 n new) ∙ ap (λ t. drop 1 t) h.others ∙ drop-drop 1 n old;
       }
 

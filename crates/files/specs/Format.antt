@@ -1,6 +1,6 @@
 -- How a file is written: a line of names, then a line for each row; and what can be wrong with a file that is not.
 use Rattle.std.specs.Prelude.{◌≡◌, ℕ, zero, suc, ◌+◌, ◌<◌, ◌≤◌, min, cond, List, [], ◌∷◌, ◌++◌, length, ℤ, Some, None, Option, ◌==◌}
-use Rattle.std.specs.List.{flat_map, AllByRecursion as All}
+use Rattle.std.specs.List.{flat_map, AllByRecursion}
 use Rattle.reader.specs.Fields.{Lacks, commas, fields_of}
 use Rattle.faults.specs.declared.row.RowFault.{RowFault}
 use Rattle.faults.specs.declared.row.RowFault.TheVariants.{Unended, Count, Value}
@@ -24,7 +24,7 @@ pub record Spelled (kind : FileKind) (bytes : List ℕ) (rows : List (List ℤ))
   pub order : List ℕ
   pub each : EachOnce (width kind) order
   pub text : bytes ≡ line_of (names_in kind order) ++ lines_of order rows
-  pub fits : All (Fits kind) rows
+  pub fits : AllByRecursion (Fits kind) rows
 
 -- the most rows that are taken into a table of so many rows: of centers at most 32
 abbrev pub most : FileKind → ℕ → ℕ
@@ -66,7 +66,7 @@ pub data Ending (kind : FileKind) (order : List ℕ) (room n : ℕ) : List ℕ �
 -- The right rows at the front of a file, and what is said of it: the first fault by the rules, or None where it is accepted.
 pub data Outcome (kind : FileKind) (room : ℕ) (bytes : List ℕ) : List (List ℤ) → Option FileFault → Type 0 where
   unnamed : Unnamed kind bytes → Outcome kind room bytes [] (Some Names)
-  named : {order rest : List ℕ} {rows : List (List ℤ)} {said : Option FileFault} → EachOnce (width kind) order → bytes ≡ line_of (names_in kind order) ++ (lines_of order rows ++ rest) → All (Fits kind) rows → length rows ≤ most kind room → Ending kind order room (length rows) rest said → Outcome kind room bytes rows said
+  named : {order rest : List ℕ} {rows : List (List ℤ)} {said : Option FileFault} → EachOnce (width kind) order → bytes ≡ line_of (names_in kind order) ++ (lines_of order rows ++ rest) → AllByRecursion (Fits kind) rows → length rows ≤ most kind room → Ending kind order room (length rows) rest said → Outcome kind room bytes rows said
 
 -- a file has one outcome
 abbrev pub OneOutcome : Type 0

@@ -1,6 +1,6 @@
 -- What the reading of a file leaves in the table, and what it answers.
 use Rattle.std.specs.Prelude.{◌≡◌, ℕ, ◌<◌, ◌≤◌, List, [], ◌++◌, map, length, take, drop, ℤ, Some, None, Ok, Err, Option, Result}
-use Rattle.std.specs.List.{AllByRecursion as All}
+use Rattle.std.specs.List.{AllByRecursion}
 use Rattle.faults.specs.declared.row.RowFault.{RowFault}
 use Rattle.rows.specs.declared.kind.FileKind.{FileKind}
 use Rattle.rows.specs.declared.order.Order.{Order}
@@ -33,7 +33,7 @@ LineReadAt kind fields order number bytes after (Err fault) = (f : RowFault) × 
 pub record Filled {R : Type 0} (kind : FileKind) (fields : R → List ℤ) (order : List ℕ) (bytes rest : List ℕ) (old new : List R) (n : ℕ) : Type 0 where
   pub room : n ≤ most kind (length old)
   pub text : bytes ≡ lines_of order (map fields (take n new)) ++ rest
-  pub fits : All (Fits kind) (map fields (take n new))
+  pub fits : AllByRecursion (Fits kind) (map fields (take n new))
   pub others : drop n new ≡ drop n old
 
 -- all rows are read, or those in front of the first fault

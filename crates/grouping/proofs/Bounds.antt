@@ -1,7 +1,7 @@
 -- How large weights, sums and the distortion can be.
 use Rattle.std.proofs.Common.{◌≡◌, ℕ, zero, suc, ◌*◌, ◌≤◌, true, List, [], ◌∷◌, length, get_or, ℤ, pos, negsuc, ◌≤ℤ◌, arith}
 use borrow.Author.Differences.{ints}
-use Rattle.std.specs.List.{AllByRecursion as All}
+use Rattle.std.specs.List.{AllByRecursion}
 use Rattle.std.proofs.ByRecursion.{All-map, All-from_get_or}
 use Rattle.std.proofs.lemmas.List.{length-map}
 use Rattle.numbers.proofs.Ring.{lin}
@@ -41,12 +41,12 @@ sum_bound axes es cs k axis l =
     let w = weight_high cs k es l.held in
     (omega (arith, ints, sum_low cs k es axis r, w, l.few), omega (arith, ints, sum_high cs k es axis r, w, l.few))
 
-dist_high : (p c : Place) → All InRange p → All InRange c → dist p c ≤ℤ pos (65535 * 65535 * length p)
+dist_high : (p c : Place) → AllByRecursion InRange p → AllByRecursion InRange c → dist p c ≤ℤ pos (65535 * 65535 * length p)
 dist_high [] c h k = omega (arith, lin)
 dist_high (x ∷ p) [] h k = omega (arith, lin)
 dist_high (x ∷ p) (y ∷ c) h k = omega (arith, lin, apart_high x y (omega (arith, ints, h.0.0, h.0.1)) (omega (arith, ints, k.0.0, k.0.1)), dist_high p c h.1 k.1)
 
-center_range : (axes : ℕ) (cs : List Place) (k : ℕ) → All (Fits axes) cs → All InRange (center cs k)
+center_range : (axes : ℕ) (cs : List Place) (k : ℕ) → AllByRecursion (Fits axes) cs → AllByRecursion InRange (center cs k)
 center_range axes [] k h = tt
 center_range axes (c ∷ cs) zero h = h.0.1
 center_range axes (c ∷ cs) (suc k) h = center_range axes cs k h.1

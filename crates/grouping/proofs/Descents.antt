@@ -3,7 +3,7 @@ use Rattle.std.proofs.Common.{◌≡◌, ℕ, suc, ◌<◌, Bool, true, false, c
 use borrow.Author.Differences.{ints}
 use lib.IntN.{ℤ_discrete}
 use lib.Signed.{lt_z}
-use Rattle.std.specs.List.{AllByRecursion as All}
+use Rattle.std.specs.List.{AllByRecursion}
 use Rattle.std.proofs.ByRecursion.{All-get_or}
 use Rattle.std.proofs.lemmas.List.{nil_from_length}
 use Rattle.std.proofs.lemmas.Int.{by_lt_z}
@@ -57,7 +57,7 @@ module _ {X : Type 0} (P : X → Type 0) (F : ℕ → X → ℤ) (G : X → ℤ)
   join k x x' xs xs' (same p) (lower q v) = lower (omega (arith, lin, ap (F k) p)) (omega (arith, lin, ap G p))
   join k x x' xs xs' (same p) (same q) = same (ap₂ ◌∷◌ p q)
 
-  falls : ((k : ℕ) (x : X) → P x → Better (F k x) (F k (f k x)) (G x) (G (f k x)) (f k x ≡ x)) → (k : ℕ) (xs : List X) → All P xs →
+  falls : ((k : ℕ) (x : X) → P x → Better (F k x) (F k (f k x)) (G x) (G (f k x)) (f k x ≡ x)) → (k : ℕ) (xs : List X) → AllByRecursion P xs →
       Better (summed_from F k xs) (summed_from F k (mapped_from f k xs)) (summed G xs) (summed G (mapped_from f k xs)) (mapped_from f k xs ≡ xs)
   falls h k [] a = same refl
   falls h k (x ∷ xs) a = join k x (f k x) xs (mapped_from f (suc k) xs) (h k x a.0) (falls h (suc k) xs a.1)
@@ -75,10 +75,10 @@ axis_better s w x h =
           lower (sym e) (omega (arith, lin, mean_lower s w m h r x e n)))
     ]
 
-fit_to : {axes : ℕ} (es : List Entry) (c : Place) → length c ≡ axes → All (λ e. length e.place ≡ axes) es → All (λ e. length e.place ≡ length c) es
-fit_to es c e a = subst (λ (n : ℕ). All (λ (d : Entry). length d.place ≡ n) es) (sym e) a
+fit_to : {axes : ℕ} (es : List Entry) (c : Place) → length c ≡ axes → AllByRecursion (λ e. length e.place ≡ axes) es → AllByRecursion (λ e. length e.place ≡ length c) es
+fit_to es c e a = subst (λ (n : ℕ). AllByRecursion (λ (d : Entry). length d.place ≡ n) es) (sym e) a
 
-module _ (axes : ℕ) (es : List Entry) (held : All (λ e. length e.place ≡ axes) es) (cs : List Place) (k : ℕ) where
+module _ (axes : ℕ) (es : List Entry) (held : AllByRecursion (λ e. length e.place ≡ axes) es) (cs : List Place) (k : ℕ) where
   mean_of : Place → Place
   mean_of c = mapped_from (λ axis x. rounded (sum es cs k axis) (weight es cs k)) 0 c
 

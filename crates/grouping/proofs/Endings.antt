@@ -4,7 +4,7 @@ use mathlib.Core.List.{List-discrete}
 use borrow.Author.Differences.{ints}
 use lib.IntN.{ℤ_discrete}
 use lib.Signed.{lt_z}
-use Rattle.std.specs.List.{AllByRecursion as All}
+use Rattle.std.specs.List.{AllByRecursion}
 use Rattle.std.proofs.ByRecursion.{All-weaker}
 use Rattle.std.proofs.lemmas.Bool.{true≢false}
 use Rattle.numbers.specs.Sums.{summed, mapped_from}
@@ -30,12 +30,12 @@ use Rattle.grouping.proofs.Totals.{total_natural}
 
 -- ---- centers stay in range
 
-number_range : (p : Place) → All InRange p → (axis : ℕ) → InRange (number p axis)
+number_range : (p : Place) → AllByRecursion InRange p → (axis : ℕ) → InRange (number p axis)
 number_range [] h axis = (omega (arith, lin), omega (arith, lin))
 number_range (x ∷ p) h zero = h.0
 number_range (x ∷ p) h (suc axis) = number_range p h.1 axis
 
-pub fit_ranged : (axes : ℕ) (es : List Entry) → All (λ e. Fits axes e.place) es → Ranged es
+pub fit_ranged : (axes : ℕ) (es : List Entry) → AllByRecursion (λ e. Fits axes e.place) es → Ranged es
 fit_ranged axes es h = All-weaker (λ e. Fits axes e.place) (λ e. (axis : ℕ) → InRange (number e.place axis)) (λ e f. number_range e.place f.1) es h
 
 -- the mean of sums that are in range by their weight
@@ -48,7 +48,7 @@ mean_range s (pos w) h l u =
 renewed_fits : (axes : ℕ) (es : List Entry) (cs : List Place) → Ranged es → (k : ℕ) (c : Place) → Fits axes c → Fits axes (renewed (weight es cs k) (sum es cs k) c)
 renewed_fits axes es cs r k c f = (length_renewed (weight es cs k) (sum es cs k) c ∙ f.0, by (lt_z (pos 0) (weight es cs k)) refl)
   where
-    by : (b : Bool) → lt_z (pos 0) (weight es cs k) ≡ b → All InRange (cond b (mapped_from (λ axis x. rounded (sum es cs k axis) (weight es cs k)) 0 c) c)
+    by : (b : Bool) → lt_z (pos 0) (weight es cs k) ≡ b → AllByRecursion InRange (cond b (mapped_from (λ axis x. rounded (sum es cs k axis) (weight es cs k)) 0 c) c)
     by false e = f.1
     by true e =
         all_mapped InRange InRange (λ axis x. rounded (sum es cs k axis) (weight es cs k)) (λ axis x u. mean_range (sum es cs k axis) (weight es cs k) (omega (arith, ints)) (sum_low cs k es axis r) (sum_high cs k es axis r)) 0 c f.1
@@ -58,7 +58,7 @@ unfolding move
 stays_fitting axes es cs cs' f m =
     record {
       held = f.held;
-      centers = subst (All (Fits axes)) (sym (moves_only es cs cs' m)) (all_mapped (Fits axes) (Fits axes) (λ k c. renewed (weight es cs k) (sum es cs k) c) (renewed_fits axes es cs (fit_ranged axes es f.held)) 0 cs f.centers);
+      centers = subst (AllByRecursion (Fits axes)) (sym (moves_only es cs cs' m)) (all_mapped (Fits axes) (Fits axes) (λ k c. renewed (weight es cs k) (sum es cs k) c) (renewed_fits axes es cs (fit_ranged axes es f.held)) 0 cs f.centers);
     }
 
 fitting_sized : (axes : ℕ) (es : List Entry) (cs : List Place) → Fitting axes es cs → Sized axes es cs
@@ -70,15 +70,15 @@ fitting_sized axes es cs f =
 
 -- ---- the coordinate total is in range
 
-place_high : (c : Place) → All InRange c → summed (λ x. x) c ≤ℤ pos (32767 * length c)
+place_high : (c : Place) → AllByRecursion InRange c → summed (λ x. x) c ≤ℤ pos (32767 * length c)
 place_high [] h = omega (arith, lin)
 place_high (x ∷ c) h = omega (arith, lin, place_high c h.1, h.0.1)
 
-place_low : (c : Place) → All InRange c → (pos 0 -ℤ pos (32768 * length c)) ≤ℤ summed (λ x. x) c
+place_low : (c : Place) → AllByRecursion InRange c → (pos 0 -ℤ pos (32768 * length c)) ≤ℤ summed (λ x. x) c
 place_low [] h = omega (arith, lin)
 place_low (x ∷ c) h = omega (arith, lin, place_low c h.1, h.0.0)
 
-coordinates_high : (axes : ℕ) (cs : List Place) → All (Fits axes) cs → coordinates cs ≤ℤ pos (32767 * (length cs * axes))
+coordinates_high : (axes : ℕ) (cs : List Place) → AllByRecursion (Fits axes) cs → coordinates cs ≤ℤ pos (32767 * (length cs * axes))
 unfolding coordinates
 coordinates_high axes [] h = omega (arith, lin)
 coordinates_high axes (c ∷ cs) h =
@@ -86,7 +86,7 @@ coordinates_high axes (c ∷ cs) h =
     let i = coordinates_high axes cs h.1 in
     omega (arith, lin)
 
-coordinates_low : (axes : ℕ) (cs : List Place) → All (Fits axes) cs → (pos 0 -ℤ pos (32768 * (length cs * axes))) ≤ℤ coordinates cs
+coordinates_low : (axes : ℕ) (cs : List Place) → AllByRecursion (Fits axes) cs → (pos 0 -ℤ pos (32768 * (length cs * axes))) ≤ℤ coordinates cs
 unfolding coordinates
 coordinates_low axes [] h = omega (arith, lin)
 coordinates_low axes (c ∷ cs) h =

@@ -1,6 +1,6 @@
 -- The cost of entries at a position.
 use Rattle.std.proofs.Common.{◌≡◌, ℕ, suc, Bool, true, false, cond, eqb, List, [], ◌∷◌, length, ℤ, pos, ◌+ℤ◌, ◌-ℤ◌, ◌*ℤ◌, refl, arith}
-use Rattle.std.specs.List.{AllByRecursion as All}
+use Rattle.std.specs.List.{AllByRecursion}
 use Rattle.numbers.specs.Sums.{summed_from}
 use Rattle.numbers.proofs.Quote.{solve, quotes}
 use Rattle.numbers.proofs.Ring.{lin}
@@ -39,7 +39,7 @@ along_if false s c = along_zero c 0
 
 -- the places that pass a test
 module _ (t : Place → Bool) (c : Place) where
-  expands_where : (es : List Entry) → All (λ e. length e.place ≡ length c) es →
+  expands_where : (es : List Entry) → AllByRecursion (λ e. length e.place ≡ length c) es →
       total (λ p. cond (t p) (dist p c) (pos 0)) es
       ≡ total (λ p. cond (t p) (norm p) (pos 0)) es -ℤ pos 2 *ℤ along c (λ axis. total (λ p. cond (t p) (number p axis) (pos 0)) es) +ℤ total (λ p. cond (t p) (pos 1) (pos 0)) es *ℤ norm c
   expands_where [] a = rw (along_zero c 0) (solve (norm c ∷ []) (search quotes depth 30 fits 20000) tt)
@@ -75,6 +75,6 @@ axis_costs s w (x ∷ c) j =
     rw (axis_costs s w c (suc j)) (solve (w ∷ x ∷ s j ∷ norm c ∷ summed_from (λ axis x. x *ℤ s axis) (suc j) c ∷ []) (search quotes depth 30 fits 20000) tt)
 
 -- a group costs the squares of its places, and on every axis what its center costs there
-pub group_by_axes : (es : List Entry) (cs : List Place) (k : ℕ) (c : Place) → All (λ e. length e.place ≡ length c) es →
+pub group_by_axes : (es : List Entry) (cs : List Place) (k : ℕ) (c : Place) → AllByRecursion (λ e. length e.place ≡ length c) es →
     group_cost es cs k c ≡ total (within cs k norm) es +ℤ summed_from (λ axis x. axis_cost (sum es cs k axis) (weight es cs k) x) 0 c
 group_by_axes es cs k c a = omega (arith, lin, group_expands es cs k c a, axis_costs (sum es cs k) (weight es cs k) c 0)

@@ -1,7 +1,7 @@
 -- Weights and sums, entry by entry, and how large they are.
 use Rattle.std.proofs.Common.{◌≡◌, ℕ, ◌*◌, ◌≤◌, Bool, true, false, cond, eqb, List, [], ◌∷◌, ◌++◌, length, get_or, ℤ, pos, negsuc, ◌+ℤ◌, ◌*ℤ◌, neg_ℤ, ◌≤ℤ◌, ap, ◌∙◌, arith}
 use borrow.Author.Differences.{ints}
-use Rattle.std.specs.List.{AllByRecursion as All}
+use Rattle.std.specs.List.{AllByRecursion}
 use Rattle.std.proofs.ByRecursion.{All-map}
 use Rattle.std.proofs.lemmas.Bool.{eq-eqb, ne_eqb}
 use Rattle.points.specs.Entries.{Entry, entry, entries}
@@ -61,11 +61,11 @@ sum_none cs k axis = omega (arith, ints)
 
 -- every place is of 16 bits
 abbrev pub Ranged : List Entry → Type 0
-Ranged es = All (λ e. (axis : ℕ) → InRange (number e.place axis)) es
+Ranged es = AllByRecursion (λ e. (axis : ℕ) → InRange (number e.place axis)) es
 
 -- every place is of 16 bits, and held at most 65,535 times
 pub record Modest (es : List Entry) : Type 0 where
-  pub held : All (λ e. e.hold ≤ 65535) es
+  pub held : AllByRecursion (λ e. e.hold ≤ 65535) es
   pub ranged : Ranged es
 
 pub modest_entries : {R : Type 0} (kindP : PointGhosts R) (kindR : RecordGhosts R) →
@@ -91,7 +91,7 @@ module _ (cs : List Place) (k : ℕ) where
   unfolding weight here
   weight_low es = total_natural (within cs k (λ p. pos 1)) (λ p. bit_low (here p)) es
 
-  pub weight_high : (es : List Entry) → All (λ e. e.hold ≤ 65535) es → weight es cs k ≤ℤ pos (65535 * length es)
+  pub weight_high : (es : List Entry) → AllByRecursion (λ e. e.hold ≤ 65535) es → weight es cs k ≤ℤ pos (65535 * length es)
   unfolding weight here
   weight_high es h =
       omega (arith, lin, held_high es h, total_rises (λ p. Unit {0}) (within cs k (λ p. pos 1)) (λ p. pos 1) (λ p u. bit_high (here p)) es (all_of (λ e. tt) es))

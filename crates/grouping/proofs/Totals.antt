@@ -1,7 +1,7 @@
 -- Totals over entries.
 use Rattle.std.proofs.Common.{◌≡◌, ℕ, zero, suc, ◌*◌, ◌≤◌, Bool, true, false, cond, List, [], ◌∷◌, length, replicate, ℤ, pos, ◌+ℤ◌, ◌*ℤ◌, ◌≤ℤ◌, sym, refl, ◌∙◌, arith}
 use lib.IntN.{*ℤ-zero, zero-*ℤ}
-use Rattle.std.specs.List.{AllByRecursion as All}
+use Rattle.std.specs.List.{AllByRecursion}
 use Rattle.std.specs.List.Sorted.{IsPermutation}
 use Rattle.numbers.specs.Sums.{summed, summed_from}
 use Rattle.numbers.proofs.Quote.{solve, quotes}
@@ -12,7 +12,7 @@ use Rattle.grouping.specs.Distance.{Place}
 use Rattle.grouping.specs.Totals.{total}
 use Rattle.grouping.specs.Unfolded.{unfolded}
 
-pub all_of : {X : Type 0} {P : X → Type 0} → ((x : X) → P x) → (xs : List X) → All P xs
+pub all_of : {X : Type 0} {P : X → Type 0} → ((x : X) → P x) → (xs : List X) → AllByRecursion P xs
 all_of h [] = tt
 all_of h (x ∷ xs) = (h x, all_of h xs)
 
@@ -32,11 +32,11 @@ total_summed f k (x ∷ xs) es = omega (arith, lin, total_add (λ p. f p k x) (�
 
 -- ---- over entries whose places have a property
 
-pub total_same : (P : Place → Type 0) (f g : Place → ℤ) → ((p : Place) → P p → f p ≡ g p) → (es : List Entry) → All (λ e. P e.place) es → total f es ≡ total g es
+pub total_same : (P : Place → Type 0) (f g : Place → ℤ) → ((p : Place) → P p → f p ≡ g p) → (es : List Entry) → AllByRecursion (λ e. P e.place) es → total f es ≡ total g es
 total_same P f g h [] a = refl
 total_same P f g h (e ∷ es) a = rw (h e.place a.0, total_same P f g h es a.1)
 
-pub total_rises : (P : Place → Type 0) (f g : Place → ℤ) → ((p : Place) → P p → f p ≤ℤ g p) → (es : List Entry) → All (λ e. P e.place) es → total f es ≤ℤ total g es
+pub total_rises : (P : Place → Type 0) (f g : Place → ℤ) → ((p : Place) → P p → f p ≤ℤ g p) → (es : List Entry) → AllByRecursion (λ e. P e.place) es → total f es ≤ℤ total g es
 total_rises P f g h [] a = omega (arith, lin)
 total_rises P f g h (e ∷ es) a =
     omega (arith, lin, total_rises P f g h es a.1, *ℤ-rises (pos e.hold) (f e.place) (g e.place) (omega (arith, lin)) (h e.place a.0))
@@ -79,7 +79,7 @@ total_none t f (e ∷ es) h =
 -- ---- how large they are
 
 -- as often as all are held
-pub held_high : (es : List Entry) → All (λ e. e.hold ≤ 65535) es → total (λ p. pos 1) es ≤ℤ pos (65535 * length es)
+pub held_high : (es : List Entry) → AllByRecursion (λ e. e.hold ≤ 65535) es → total (λ p. pos 1) es ≤ℤ pos (65535 * length es)
 held_high [] h = omega (arith, lin)
 held_high (e ∷ es) h =
     let u : pos e.hold *ℤ pos 1 ≡ pos e.hold = solve (pos e.hold ∷ []) (search quotes depth 30 fits 20000) tt in

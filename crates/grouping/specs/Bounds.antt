@@ -1,6 +1,6 @@
 -- How large weights, sums and the distortion can be within the limits of a recording.
 use Rattle.std.specs.Prelude.{ℕ, ◌^◌, List, pos, neg_ℤ, ◌≤ℤ◌, ◌<ℤ◌}
-use Rattle.std.specs.List.{AllByRecursion as All}
+use Rattle.std.specs.List.{AllByRecursion}
 use Rattle.points.specs.Entries.{Entry}
 use Rattle.grouping.specs.Distance.{Place}
 use Rattle.grouping.specs.Totals.{weight, sum}
@@ -19,5 +19,5 @@ SumBound = (axes : ℕ) (es : List Entry) (cs : List Place) (k axis : ℕ) → L
 
 -- the distortion has 62 bits, where the centers fit as the places do
 abbrev pub DistortionBound : Type 0
-DistortionBound = (axes : ℕ) (es : List Entry) (cs : List Place) → Limited axes es → All (Fits axes) cs →
+DistortionBound = (axes : ℕ) (es : List Entry) (cs : List Place) → Limited axes es → AllByRecursion (Fits axes) cs →
     (pos 0 ≤ℤ distortion es cs) × (distortion es cs <ℤ pos (2 ^ 62))

@@ -1,6 +1,6 @@
 -- What centers cost: the squared distances to them, each as often as its place is held.
 use Rattle.std.specs.Prelude.{◌≡◌, ℕ, ◌<◌, List, [], ◌∷◌, length, ℤ, pos, ◌+ℤ◌, ◌*ℤ◌}
-use Rattle.std.specs.List.{AllByRecursion as All}
+use Rattle.std.specs.List.{AllByRecursion}
 use Rattle.points.specs.Entries.{Entry}
 use Rattle.grouping.specs.Distance.{Place, dist}
 use Rattle.grouping.specs.Choice.{center, choose}
@@ -17,7 +17,7 @@ group_cost es cs k x = total (within cs k (λ p. dist p x)) es
 -- an assignment: for each entry the number of a center
 pub record Assignment (es : List Entry) (cs : List Place) (ks : List ℕ) : Type 0 where
   pub each : length ks ≡ length es
-  pub there : All (λ k. k < length cs) ks
+  pub there : AllByRecursion (λ k. k < length cs) ks
 
 -- what it costs: every place its squared distance to the center that its entry is assigned to
 abbrev pub assignment_cost : List Entry → List Place → List ℕ → ℤ

@@ -1,6 +1,6 @@
 -- Rounds worked by hand.
 use Rattle.std.specs.Prelude.{◌≡◌, ℕ, suc, cond, List, [], ◌∷◌, map, ℤ, pos, negsuc, int_lt}
-use Rattle.std.specs.List.{AllByRecursion as All}
+use Rattle.std.specs.List.{AllByRecursion}
 use Rattle.numbers.specs.Sums.{mapped_from}
 use Rattle.points.specs.Entries.{Entry}
 use Rattle.grouping.specs.Distance.{Place, dist}
@@ -116,4 +116,4 @@ around_zero =
     }
 
 abbrev pub WorkedFigures : Type 0
-WorkedFigures = All Right (two_groups ∷ half ∷ below_zero ∷ around_zero ∷ [])
+WorkedFigures = AllByRecursion Right (two_groups ∷ half ∷ below_zero ∷ around_zero ∷ [])

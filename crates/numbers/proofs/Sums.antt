@@ -3,7 +3,7 @@ use Rattle.std.proofs.Common.{◌≡◌, ℕ, zero, suc, ◌<◌, cond, eqb, Lis
 use borrow.Author.Differences.{up, down}
 use lib.Dec.{eqb-zero-suc, eqb-suc-zero, eqb-suc-suc}
 use lib.IntN.{suc_ℤ-*ℤ, zero-*ℤ, +ℤ_idl}
-use Rattle.std.specs.List.{AllByRecursion as All}
+use Rattle.std.specs.List.{AllByRecursion}
 use Rattle.std.specs.List.Sorted.{IsPermutation}
 use Rattle.std.proofs.lemmas.List.Sums.{sum_by-cons}
 use Rattle.std.proofs.lemmas.List.Sorted.{sum_by-IsPermutation}
@@ -83,6 +83,6 @@ pub mapped_same : {X Y : Type 0} (f g : ℕ → X → Y) → ((k : ℕ) (x : X) 
 mapped_same f g h k [] = refl
 mapped_same f g h k (x ∷ xs) = ap₂ ◌∷◌ (h k x) (mapped_same f g h (suc k) xs)
 
-pub all_mapped : {X Y : Type 0} (P : X → Type 0) (Q : Y → Type 0) (f : ℕ → X → Y) → ((k : ℕ) (x : X) → P x → Q (f k x)) → (k : ℕ) (xs : List X) → All P xs → All Q (mapped_from f k xs)
+pub all_mapped : {X Y : Type 0} (P : X → Type 0) (Q : Y → Type 0) (f : ℕ → X → Y) → ((k : ℕ) (x : X) → P x → Q (f k x)) → (k : ℕ) (xs : List X) → AllByRecursion P xs → AllByRecursion Q (mapped_from f k xs)
 all_mapped P Q f h k [] a = tt
 all_mapped P Q f h k (x ∷ xs) a = (h k x a.0, all_mapped P Q f h (suc k) xs a.1)

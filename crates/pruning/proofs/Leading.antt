@@ -1,6 +1,6 @@
 -- What leaders leave, and what the candidates that are left are good for.
 use Rattle.std.proofs.Common.{◌≡◌, ℕ, suc, ◌+◌, ◌<◌, ◌≤◌, Bool, true, List, [], ◌∷◌, ◌++◌, length, get_or, take, ℤ, ◌≤ℤ◌, ◌<ℤ◌, filter, sym, refl, ap, ◌∙◌, subst, inl, inr, arith, take_all}
-use Rattle.std.specs.List.{ContainsAt as Has, AllByRecursion as All}
+use Rattle.std.specs.List.{ContainsAt as Has, AllByRecursion}
 use Rattle.std.proofs.ByRecursion.{All-get_or, All-from_get_or, all-has, all_kept_by, has_get_or, has_append_left, has_push, has_push_cases}
 use Rattle.std.proofs.lemmas.List.{length-take, get_or-take, take_more}
 use Rattle.std.proofs.lemmas.Int.{by_lt_z}
@@ -28,7 +28,7 @@ inside_length (more q r i) = ap suc (inside_length i)
 pub numbers_has : (cs : List Place) (k : ℕ) → k < length cs → Has (numbers_of cs) k
 numbers_has cs k h = subst (Has (numbers_of cs)) (slice_index_mapped (λ i c. i) [] 0 k cs h) (has_get_or (numbers_of cs) k 0 (omega (arith, length_mapped (λ i c. i) 0 cs)))
 
-pub numbers_known : (cs : List Place) → All (λ k. k < length cs) (numbers_of cs)
+pub numbers_known : (cs : List Place) → AllByRecursion (λ k. k < length cs) (numbers_of cs)
 numbers_known cs = All-from_get_or (λ k. k < length cs) (numbers_of cs) 0 (λ i l. let h : i < length cs = omega (arith, length_mapped (λ j c. j) 0 cs) in rw (slice_index_mapped (λ j c. j) [] 0 i cs h) h)
 
 -- ---- the leader of a list, one candidate after the other
@@ -148,7 +148,7 @@ prunes_none prunes safe los his cs ks ls sized known h p r has =
 
 -- ---- the candidates that a box is reached with
 
-pub reached_known : {cs : List Place} {los his : Place} {ks : List ℕ} → Reached cs los his ks → All (λ k. k < length cs) ks
+pub reached_known : {cs : List Place} {los his : Place} {ks : List ℕ} → Reached cs los his ks → AllByRecursion (λ k. k < length cs) ks
 reached_known {cs = cs} from_all = numbers_known cs
 reached_known {cs = cs} {los = los} {his = his} (pruned {ks = ks} prunes safe left h) =
     rw left.left (all_kept_by (keeps prunes los his cs left.leader) (λ k. k < length cs) ks (reached_known h))
@@ -156,7 +156,7 @@ reached_known (inner within h) = reached_known h
 
 -- place by place: a place of the box is one of the boxes around it
 reached_has : {cs : List Place} {los his : Place} {ks : List ℕ} → Reached cs los his ks → (p : Place) → Inside los his p →
-    0 < length cs → All (λ c. length c ≡ length p) cs → Has ks (choose cs p)
+    0 < length cs → AllByRecursion (λ c. length c ≡ length p) cs → Has ks (choose cs p)
 reached_has {cs = cs} from_all p r some sized = numbers_has cs (choose cs p) (chosen cs p some).one_of
 reached_has {cs = cs} {los = los} {his = his} (pruned {ks = ks} {ls = ls} prunes safe left h) p r some sized =
     prunes_none prunes safe los his cs ks ls (rw (sym (inside_length r)) sized) (reached_known h) left p r (reached_has h p r some sized)
@@ -181,7 +181,7 @@ module _ (los his : Place) (cs : List Place) where
   nearer_on l k j (inr a) (inr b) = inr (a.0 ∙ b.0, omega (arith, a.1, b.1))
 
   -- the leader of candidates that cover a box with a place is the nearest of all centers
-  pub covers_leads : (ks : List ℕ) (l : ℕ) → Covers los his cs ks → (p : Place) → Inside los his p → All (λ k. k < length cs) ks → Leader los his cs ks l → Leader los his cs (numbers_of cs) l
+  pub covers_leads : (ks : List ℕ) (l : ℕ) → Covers los his cs ks → (p : Place) → Inside los his p → AllByRecursion (λ k. k < length cs) ks → Leader los his cs ks l → Leader los his cs (numbers_of cs) l
   covers_leads ks l covers p r known leads = record { one_of = numbers_has cs l ll; nearest = λ j h n. nearest_at j (all-has (λ k. k < length cs) (numbers_of cs) j (numbers_known cs) h) n }
     where
       ll : l < length cs
@@ -209,7 +209,7 @@ leads_all los his cs ks l sized h p r leads =
 -- ---- the center of a place
 
 -- a candidate that beats all others at p is the one that p belongs to, if that is a candidate
-pub listed_chosen : (cs : List Place) (ks : List ℕ) (p : Place) (b : ℕ) → All (λ k. k < length cs) ks → Has ks b →
+pub listed_chosen : (cs : List Place) (ks : List ℕ) (p : Place) (b : ℕ) → AllByRecursion (λ k. k < length cs) ks → Has ks b →
     ((j : ℕ) → Has ks j → (j ≡ b → ⊥) → Beats cs p b j) → Has ks (choose cs p) → b ≡ choose cs p
 listed_chosen cs ks p b known one beats has = elim (cases_eq (choose cs p) b) [
   | inl e ↦ sym e

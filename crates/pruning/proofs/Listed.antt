@@ -1,6 +1,6 @@
 -- Centers and candidates as lists.
 use Rattle.std.proofs.Common.{◌≡◌, ℕ, ◌+◌, ◌<◌, ◌≤◌, min, Bool, true, false, cond, List, [], ◌∷◌, ◌++◌, length, get_or, take, set, filter, sym, ap, ◌∙◌, arith}
-use Rattle.std.specs.List.{AllByRecursion as All}
+use Rattle.std.specs.List.{AllByRecursion}
 use Rattle.std.proofs.lemmas.List.Elements.{filter_more}
 use Rattle.std.proofs.ByRecursion.{All-get_or, All-from_get_or, All-map}
 use Rattle.std.proofs.lemmas.List.{length-take, length-take-le, length-map, get_or-take, get_or-map, get_or_default, same_lists, take_more_set, append-nil}
@@ -34,7 +34,7 @@ pub length_place : (axes : ℕ) (p : Position) → length (place_of axes p) ≡ 
 length_place axes p = length-take axes (position_place p)
 
 -- the places of the centers have as many numbers as that of any position
-pub centers_sized : (axes : ℕ) (c : Centers) (p : Position) → All (λ place. length place ≡ length (place_of axes p)) (centers_of axes c)
+pub centers_sized : (axes : ℕ) (c : Centers) (p : Position) → AllByRecursion (λ place. length place ≡ length (place_of axes p)) (centers_of axes c)
 centers_sized axes c p =
     All-map (λ place. length place ≡ length (place_of axes p)) (place_of axes) (positions_of c)
     (All-from_get_or (λ q. length (place_of axes q) ≡ length (place_of axes p)) (positions_of c) (position_at [] 0) (λ i l. length_place axes (position_at (positions_of c) i) ∙ sym (length_place axes p)))

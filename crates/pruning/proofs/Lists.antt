@@ -1,6 +1,6 @@
 -- Lists of numbers: what they have, what a filter keeps, and how they rise.
 use Rattle.std.proofs.Common.{◌≡◌, ℕ, zero, suc, ◌<◌, Bool, true, ◌⊎◌, List, [], ◌∷◌, length, get_or, filter, ap, ◌∙◌, inl, inr, arith}
-use Rattle.std.specs.List.{HoldsAt, ContainsAt as Has, AllByRecursion as All}
+use Rattle.std.specs.List.{HoldsAt, ContainsAt as Has, AllByRecursion}
 use Rattle.std.proofs.ByRecursion.{All-get_or, All-from_get_or, all_kept_by}
 use Rattle.std.proofs.lemmas.Bool.{both_ways, cases_Bool, cond-true, cond-false}
 
@@ -25,7 +25,7 @@ has_cases k x ks h = at_place h.0 h.1 h.2
 -- each number above the one before it
 abbrev Climbs : List ℕ → Type 0
 Climbs [] = Unit {0}
-Climbs (x ∷ xs) = All (λ y. x < y) xs × Climbs xs
+Climbs (x ∷ xs) = AllByRecursion (λ y. x < y) xs × Climbs xs
 
 climbs_from : (xs : List ℕ) → ((i j : ℕ) → i < j → j < length xs → get_or xs i 0 < get_or xs j 0) → Climbs xs
 climbs_from [] f = tt

@@ -1,6 +1,6 @@
 -- What the rules prune, worked by hand.
 use Rattle.std.specs.Prelude.{◌≡◌, ℕ, Bool, true, false, [], ◌∷◌}
-use Rattle.std.specs.List.{AllByRecursion as All}
+use Rattle.std.specs.List.{AllByRecursion}
 use Rattle.grouping.specs.Distance.{Place}
 use Rattle.grouping.specs.Examples.{pair}
 use Rattle.pruning.specs.Rules.{corner_prunes, min_max_prunes}
@@ -65,4 +65,4 @@ same_position =
     }
 
 abbrev pub WorkedFigures : Type 0
-WorkedFigures = All Right (tie ∷ beyond ∷ same_position ∷ [])
+WorkedFigures = AllByRecursion Right (tie ∷ beyond ∷ same_position ∷ [])

@@ -1,6 +1,6 @@
 -- Candidates of a box: which of them leads, which are left, and what they are good for.
 use Rattle.std.specs.Prelude.{◌≡◌, ℕ, ◌<◌, Bool, not, ◌||◌, ◌⊎◌, List, length, ◌<ℤ◌, filter, ◌==◌, ◌≢◌, slice_index}
-use Rattle.std.specs.List.{ContainsAt as Has, AllByRecursion as All}
+use Rattle.std.specs.List.{ContainsAt as Has, AllByRecursion}
 use Rattle.numbers.specs.Sums.{mapped_from}
 use Rattle.grouping.specs.Boxes.{Inside, near}
 use Rattle.grouping.specs.Choice.{center, choose}
@@ -14,7 +14,7 @@ numbers_of cs = mapped_from (λ k c. k) 0 cs
 -- candidates: numbers of centers, at least one, each above the one before
 pub record Fit (cs : List Place) (ks : List ℕ) : Type 0 where
   pub some : 0 < length ks
-  pub known : All (λ k. k < length cs) ks
+  pub known : AllByRecursion (λ k. k < length cs) ks
   pub rises : (i j : ℕ) → i < j → j < length ks → slice_index ks i < slice_index ks j
 
 -- center k is nearer to the box than center j, or equally near and of the lower number
@@ -50,16 +50,16 @@ pub data Reached (cs : List Place) : Place → Place → List ℕ → Type 0 whe
 -- at every place of a box, what the place belongs to is left
 abbrev pub PrunesNone : Type 0
 PrunesNone = (prunes : Test) → Safe prunes → (los his : Place) (cs : List Place) (ks ls : List ℕ) →
-    All (λ c. length c ≡ length los) cs → All (λ k. k < length cs) ks → Left prunes los his cs ks ls →
+    AllByRecursion (λ c. length c ≡ length los) cs → AllByRecursion (λ k. k < length cs) ks → Left prunes los his cs ks ls →
     (p : Place) → Inside los his p → Has ks (choose cs p) → Has ls (choose cs p)
 
 -- candidates that a box is reached with cover it
 abbrev pub ReachedCovers : Type 0
 ReachedCovers = (los his : Place) (cs : List Place) (ks : List ℕ) →
-    0 < length cs → All (λ c. length c ≡ length los) cs → Reached cs los his ks → Covers los his cs ks
+    0 < length cs → AllByRecursion (λ c. length c ≡ length los) cs → Reached cs los his ks → Covers los his cs ks
 
 -- the leader of a box that has a place is the nearest of all centers, by whatever safe rules it was reached
 abbrev pub LeadsAll : Type 0
 LeadsAll = (los his : Place) (cs : List Place) (ks : List ℕ) (l : ℕ) →
-    All (λ c. length c ≡ length los) cs → Reached cs los his ks →
+    AllByRecursion (λ c. length c ≡ length los) cs → Reached cs los his ks →
     (p : Place) → Inside los his p → Leader los his cs ks l → Leader los his cs (numbers_of cs) l

@@ -1,6 +1,6 @@
 -- A text and its fields.
 use Rattle.std.proofs.Common.{◌≡◌, ℕ, zero, suc, ◌+◌, ◌-◌, ◌<◌, ◌≤◌, Bool, true, cond, eqb, List, [], ◌∷◌, ◌++◌, length, get_or, take, drop, sym, refl, ap, ◌∙◌, arith}
-use Rattle.std.specs.List.{AllByRecursion as All}
+use Rattle.std.specs.List.{AllByRecursion}
 use Rattle.std.proofs.lemmas.List.{take_all, at_drop_more}
 use Rattle.std.proofs.lemmas.Bool.{cond-true, cond-false, cond_both, eq-eqb, ne_eqb, eqb-true, eqb-false}
 use Rattle.reader.specs.Fields.{Lacks, Finds, commas, before, fields_of, FieldsExactly}
@@ -49,15 +49,15 @@ lacks_front b x p ne h zero l e = ne e
 lacks_front b x p ne h (suc k) l e = h k (omega arith) e
 
 -- a byte that is no comma, in front of fields that have none
-before_lack : (b : ℕ) (fs : List (List ℕ)) → (b ≡ 44 → ⊥) → All (Lacks 44) fs → All (Lacks 44) (before b fs)
+before_lack : (b : ℕ) (fs : List (List ℕ)) → (b ≡ 44 → ⊥) → AllByRecursion (Lacks 44) fs → AllByRecursion (Lacks 44) (before b fs)
 before_lack b [] ne h = (lacks_front 44 b [] ne (λ k l e. omega arith), h)
 before_lack b (f ∷ fs) ne h = (lacks_front 44 b f ne h.0, h.1)
 
 -- no field has a comma
-pub fields_lack : (text : List ℕ) → All (Lacks 44) (fields_of text)
+pub fields_lack : (text : List ℕ) → AllByRecursion (Lacks 44) (fields_of text)
 fields_lack [] = (λ k l e. omega arith, tt)
 fields_lack (b ∷ bs) =
-    cond_both (eqb b 44) ([] ∷ fields_of bs) (before b (fields_of bs)) (All (Lacks 44))
+    cond_both (eqb b 44) ([] ∷ fields_of bs) (before b (fields_of bs)) (AllByRecursion (Lacks 44))
     (λ _. (λ k l e. omega arith, fields_lack bs))
     (λ e. before_lack b (fields_of bs) (eqb-false b 44 e) (fields_lack bs))
 
@@ -90,7 +90,7 @@ count_other text i l ne =
     at_drop_more (λ t. length (fields_of t)) text i 0 l ∙ ap length (fields_before (get_or text i 0) left ne) ∙ before_length (get_or text i 0) (fields_of left) (fields_some left)
 
 -- fields with commas between them are the fields of that text
-pub fields_commas : (fs : List (List ℕ)) → 0 < length fs → All (Lacks 44) fs → fields_of (commas fs) ≡ fs
+pub fields_commas : (fs : List (List ℕ)) → 0 < length fs → AllByRecursion (Lacks 44) fs → fields_of (commas fs) ≡ fs
 fields_commas [] l h = absurd (omega arith)
 fields_commas (f ∷ []) l h = fields_last f h.0
 fields_commas (f ∷ g ∷ fs) l h = fields_cut f (commas (g ∷ fs)) h.0 ∙ ap (λ t. f ∷ t) (fields_commas (g ∷ fs) (omega arith) h.1)

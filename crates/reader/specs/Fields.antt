@@ -1,6 +1,6 @@
 -- The fields of a text: what stands between its commas.
 use Rattle.std.specs.Prelude.{◌≡◌, ℕ, ◌+◌, ◌<◌, ◌≤◌, cond, List, [], ◌∷◌, ◌++◌, length, take, drop, ◌==◌, ◌≢◌, slice_index}
-use Rattle.std.specs.List.{AllByRecursion as All}
+use Rattle.std.specs.List.{AllByRecursion}
 
 -- no byte of bs is b
 abbrev pub Lacks : ℕ → List ℕ → Type 0
@@ -32,5 +32,5 @@ fields_of (b ∷ bs) = cond (b == 44) ([] ∷ fields_of bs) (before b (fields_of
 -- the only ones of which that holds.
 abbrev pub FieldsExactly : Type 0
 FieldsExactly =
-    ((text : List ℕ) → (commas (fields_of text) ≡ text) × All (Lacks 44) (fields_of text) × (0 < length (fields_of text)))
-    × ((fs : List (List ℕ)) → 0 < length fs → All (Lacks 44) fs → fields_of (commas fs) ≡ fs)
+    ((text : List ℕ) → (commas (fields_of text) ≡ text) × AllByRecursion (Lacks 44) (fields_of text) × (0 < length (fields_of text)))
+    × ((fs : List (List ℕ)) → 0 < length fs → AllByRecursion (Lacks 44) fs → fields_of (commas fs) ≡ fs)

@@ -1,7 +1,7 @@
 -- The laws of a line: what its fields say, they say of one row or of one fault.
 use Rattle.std.proofs.Common.{◌≡◌, ℕ, ◌+◌, ◌<◌, List, [], length, get_or, ℤ, pos, negsuc, ◌≤ℤ◌, sym, refl, ap, ◌∙◌, subst, inl, inr, arith, rules}
 use Rattle.std.specs.Fmt.{signed_decimal}
-use Rattle.std.specs.List.{AllByRecursion as All}
+use Rattle.std.specs.List.{AllByRecursion}
 use Rattle.std.proofs.ByRecursion.{All-get_or}
 use Rattle.std.proofs.lemmas.List.{ext_get_or, length-map, get_or-map}
 use Rattle.std.proofs.lemmas.Int.{ints}
@@ -27,7 +27,7 @@ use Rattle.rows.proofs.Once.{stands}
 abbrev Narrow : Column → Type 0
 Narrow column = (negsuc 99998 ≤ℤ column.range.least) × (column.range.greatest ≤ℤ pos 999999)
 
-narrow_all : (kind : FileKind) → All Narrow (columns_of kind)
+narrow_all : (kind : FileKind) → AllByRecursion Narrow (columns_of kind)
 narrow_all DriveRecords = search rules
 narrow_all TelegramRecords = search rules
 narrow_all DriveCenters = search rules

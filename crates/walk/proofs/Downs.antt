@@ -1,6 +1,6 @@
 -- One box of a walk.
 use Rattle.std.proofs.Common.{◌≡◌, ℕ, suc, ◌+◌, ◌*◌, ◌<◌, ◌≤◌, Bool, true, false, cond, not, ◌&&◌, List, [], ◌∷◌, ◌++◌, length, get_or, ℤ, pos, ◌+ℤ◌, ◌≤ℤ◌, sym, refl, ◌∙◌, arith}
-use Rattle.std.specs.List.{ContainsAt as Has, AllByRecursion as All}
+use Rattle.std.specs.List.{ContainsAt as Has, AllByRecursion}
 use Rattle.std.proofs.ByRecursion.{All-get_or, All-from_get_or}
 use Rattle.std.proofs.lemmas.List.{get_or-map, length-map, length-take-le, get_or-take}
 use Rattle.numbers.proofs.Ring.{lin}
@@ -31,7 +31,7 @@ inside_by (lo ∷ los) his [] a b h = absurd (omega arith)
 inside_by (lo ∷ los) [] (x ∷ p) a b h = absurd (omega arith)
 inside_by (lo ∷ los) (hi ∷ his) (x ∷ p) a b h = more (h 0 (omega arith)).0 (h 0 (omega arith)).1 (inside_by los his p (omega arith) (omega arith) (λ axis l. h (suc axis) (omega arith)))
 
-pub within_bounds : (axes : ℕ) (es : List Entry) (b : Bounds) → axes ≤ 4 → All (λ e. length e.place ≡ axes) es → BoundsOf es b → All (λ e. Inside (lows axes b) (highs axes b) e.place) es
+pub within_bounds : (axes : ℕ) (es : List Entry) (b : Bounds) → axes ≤ 4 → AllByRecursion (λ e. length e.place ≡ axes) es → BoundsOf es b → AllByRecursion (λ e. Inside (lows axes b) (highs axes b) e.place) es
 within_bounds axes es b few sized h =
     All-from_get_or (λ e. Inside (lows axes b) (highs axes b) e.place) es nothing
     (λ i l.
@@ -49,12 +49,12 @@ within_bounds axes es b few sized h =
 -- ---- candidates
 
 -- what the rule leaves still covers
-pub covered_left : (cs : List Place) (ks ls : List ℕ) (los his : Place) (es : List Entry) → ((p : Place) → Inside los his p → Has ks (choose cs p) → Has ls (choose cs p)) → All (λ e. Inside los his e.place) es → Covered cs ks es → Covered cs ls es
+pub covered_left : (cs : List Place) (ks ls : List ℕ) (los his : Place) (es : List Entry) → ((p : Place) → Inside los his p → Has ks (choose cs p) → Has ls (choose cs p)) → AllByRecursion (λ e. Inside los his e.place) es → Covered cs ks es → Covered cs ls es
 covered_left cs ks ls los his [] h a c = tt
 covered_left cs ks ls los his (e ∷ es) h a c = (h e.place a.0 c.0, covered_left cs ks ls los his es h a.1 c.1)
 
 -- one candidate that is left has all
-pub covered_one : (cs : List Place) (ls : List ℕ) (k : ℕ) (es : List Entry) → length ls ≡ 1 → k ≡ get_or ls 0 0 → Covered cs ls es → All (λ e. k ≡ choose cs e.place) es
+pub covered_one : (cs : List Place) (ls : List ℕ) (k : ℕ) (es : List Entry) → length ls ≡ 1 → k ≡ get_or ls 0 0 → Covered cs ls es → AllByRecursion (λ e. k ≡ choose cs e.place) es
 covered_one cs ls k [] n e c = tt
 covered_one cs ls k (x ∷ es) n e c = (e ∙ sym (has_single ls (choose cs x.place) n c.0), covered_one cs ls k es n e c.1)
 
@@ -90,14 +90,14 @@ module _ (cuts : List Cut) (log : Logged cuts) (b i : ℕ) (l : i < length cuts)
       one false y h = h
 
   -- what holds of all entries of the box holds of all of each child
-  pub all_parts : (P : Entry → Type 0) (es : List Entry) → All P (contents cuts b es) → All P (contents cuts (2 * i + 1) es) × All P (contents cuts (2 * i + 2) es)
+  pub all_parts : (P : Entry → Type 0) (es : List Entry) → AllByRecursion P (contents cuts b es) → AllByRecursion P (contents cuts (2 * i + 1) es) × AllByRecursion P (contents cuts (2 * i + 2) es)
   all_parts P [] a = (tt, tt)
   all_parts P (e ∷ es) a =
       let parts = children_hold cuts log b i l of e.place in
       rw (parts.0, parts.1) (one (holds cuts b e.place) (below (cut_at cuts i) e.place) a (all_parts P es))
     where
-      one : (x y : Bool) → All P (cond x (e ∷ contents cuts b es) (contents cuts b es)) → (All P (contents cuts b es) → All P (contents cuts (2 * i + 1) es) × All P (contents cuts (2 * i + 2) es)) →
-          All P (cond (x && y) (e ∷ contents cuts (2 * i + 1) es) (contents cuts (2 * i + 1) es)) × All P (cond (x && not y) (e ∷ contents cuts (2 * i + 2) es) (contents cuts (2 * i + 2) es))
+      one : (x y : Bool) → AllByRecursion P (cond x (e ∷ contents cuts b es) (contents cuts b es)) → (AllByRecursion P (contents cuts b es) → AllByRecursion P (contents cuts (2 * i + 1) es) × AllByRecursion P (contents cuts (2 * i + 2) es)) →
+          AllByRecursion P (cond (x && y) (e ∷ contents cuts (2 * i + 1) es) (contents cuts (2 * i + 1) es)) × AllByRecursion P (cond (x && not y) (e ∷ contents cuts (2 * i + 2) es) (contents cuts (2 * i + 2) es))
       one true true a h = ((a.0, (h a.1).0), (h a.1).1)
       one true false a h = ((h a.1).0, (a.0, (h a.1).1))
       one false y a h = h a

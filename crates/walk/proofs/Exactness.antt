@@ -1,7 +1,7 @@
 -- What a whole walk has found is exact: nothing that a recording adds up to passes 64 bits.
 use Rattle.std.proofs.Common.{◌≡◌, ℕ, suc, ◌+◌, ◌<◌, ◌≤◌, List, [], ◌∷◌, map, length, get_or, ℤ, pos, ◌+ℤ◌, sym, refl, ap, ◌∙◌, subst, ap₂, arith, w64, SFits}
 use borrow.Author.Differences.{ints}
-use Rattle.std.specs.List.{AllByRecursion as All}
+use Rattle.std.specs.List.{AllByRecursion}
 use Rattle.std.specs.Int.{int_wrap}
 use Rattle.std.proofs.ByRecursion.{All-get_or, All-from_get_or, All-map, All-weaker}
 use Rattle.std.proofs.lemmas.List.{get_or-take, length-take-le}
@@ -72,7 +72,7 @@ module _ (axes : ℕ) (es : List Entry) (cs : List Place) (limited : Limited axe
       let f : SFits w64 (sum es cs k axis) = omega (arith, ints, b.0, b.1) in
       fits (Sum axis) k ∙ found (Sum axis) k l h ∙ int_wrap_fits w64 (sum es cs k axis) f
 
-  cost_exact : (k : ℕ) (c : Place) → k < 32 → length c ≡ axes → All (λ e. length e.place ≡ length c) es → int_wrap w64 (cost_of (tallies_at us k) c) ≡ int_wrap w64 (group_cost es cs k c)
+  cost_exact : (k : ℕ) (c : Place) → k < 32 → length c ≡ axes → AllByRecursion (λ e. length e.place ≡ length c) es → int_wrap w64 (cost_of (tallies_at us k) c) ≡ int_wrap w64 (group_cost es cs k c)
   cost_exact k c h n sized =
       let t = tallies_at us k in
       let exact = from_equal (λ axis x. axis_cost (number t.sums axis) t.weight x) (λ axis x. axis_cost (sum es cs k axis) (weight es cs k) x) (pos 0) 0 c
@@ -81,7 +81,7 @@ module _ (axes : ℕ) (es : List Entry) (cs : List Place) (limited : Limited axe
       ∙ int_wrap-add_same w64 t.squares (total (within cs k norm) es) _ (found Squares k tt h)
       ∙ ap (int_wrap w64) (sym (group_by_axes es cs k c sized))
 
-  pub distortion_exact : (d : ℤ) → SFits w64 d → 0 < length cs → length cs ≤ 32 → All (Fits axes) cs → int_wrap w64 d ≡ int_wrap w64 (summed_from (λ k c. cost_of (tallies_at us k) c) 0 cs) → d ≡ distortion es cs
+  pub distortion_exact : (d : ℤ) → SFits w64 d → 0 < length cs → length cs ≤ 32 → AllByRecursion (Fits axes) cs → int_wrap w64 d ≡ int_wrap w64 (summed_from (λ k c. cost_of (tallies_at us k) c) 0 cs) → d ≡ distortion es cs
   distortion_exact d f some few fit h =
       let b = distortion_bound axes es cs limited fit in
       let g : SFits w64 (distortion es cs) = omega (arith, ints, b.0, b.1) in
@@ -91,12 +91,12 @@ module _ (axes : ℕ) (es : List Entry) (cs : List Place) (limited : Limited axe
       cost_exact (0 + i) (get_or cs i []) (omega arith) n (all_sized (get_or cs i []) n)) in
       sym (int_wrap_fits w64 d f) ∙ h ∙ groups ∙ ap (int_wrap w64) (sym (cost_before es cs some)) ∙ int_wrap_fits w64 (distortion es cs) g
     where
-      all_sized : (c : Place) → length c ≡ axes → All (λ e. length e.place ≡ length c) es
+      all_sized : (c : Place) → length c ≡ axes → AllByRecursion (λ e. length e.place ≡ length c) es
       all_sized c n = All-weaker (λ e. Fits axes e.place) (λ e. length e.place ≡ length c) (λ e p. p.0 ∙ sym n) es limited.fit
 
 -- ---- centers
 
-pub centers_fit : (axes : ℕ) → axes ≤ 4 → (ps : List Position) → All (Fits axes) (map (place_of axes) ps)
+pub centers_fit : (axes : ℕ) → axes ≤ 4 → (ps : List Position) → AllByRecursion (Fits axes) (map (place_of axes) ps)
 centers_fit axes few ps = All-map (Fits axes) (place_of axes) ps (all_of one ps)
   where
     one : (p : Position) → Fits axes (place_of axes p)

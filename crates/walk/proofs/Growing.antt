@@ -1,7 +1,7 @@
 -- What centers get of entries, part by part.
 use Rattle.std.proofs.Common.{◌≡◌, ℕ, ◌+◌, ◌<◌, Bool, true, false, cond, eqb, List, [], ◌∷◌, ◌++◌, length, get_or, take, ℤ, pos, ◌+ℤ◌, ◌*ℤ◌, sym, refl, ap, ◌∙◌, subst, arith, w64}
 use lib.IntN.{*ℤ-zero}
-use Rattle.std.specs.List.{ContainsAt as Has, AllByRecursion as All}
+use Rattle.std.specs.List.{ContainsAt as Has, AllByRecursion}
 use Rattle.std.specs.Int.{int_wrap}
 use Rattle.std.proofs.lemmas.Int.{int_wrap-add_same}
 use Rattle.numbers.proofs.Ring.{lin}
@@ -42,7 +42,7 @@ grown_append cs es fs ts us vs g h q j l k =
     h q j l k ∙ int_wrap-add_same w64 (told q (tallies_at us j)) (a +ℤ x) y (g q j l k) ∙ ap (int_wrap w64) (omega (arith, lin, total_append (within cs j (measured q)) es fs))
 
 -- entries that all belong to center k
-within_whole : (cs : List Place) (k j : ℕ) (f : Place → ℤ) (es : List Entry) → All (λ e. k ≡ choose cs e.place) es → total (within cs j f) es ≡ cond (eqb k j) (total f es) (pos 0)
+within_whole : (cs : List Place) (k j : ℕ) (f : Place → ℤ) (es : List Entry) → AllByRecursion (λ e. k ≡ choose cs e.place) es → total (within cs j f) es ≡ cond (eqb k j) (total f es) (pos 0)
 within_whole cs k j f [] a = nothing (eqb k j)
   where
     nothing : (b : Bool) → pos 0 ≡ cond b (pos 0) (pos 0)
@@ -54,7 +54,7 @@ within_whole cs k j f (e ∷ es) a = rw (sym a.0, within_whole cs k j f es a.1) 
     one true h x t = refl
     one false h x t = omega (arith, lin, *ℤ-zero h)
 
-pub grown_whole : (cs : List Place) (k : ℕ) (more : Tallies) (es : List Entry) (ts us : List Tallies) → Credited k more ts us → All (λ e. k ≡ choose cs e.place) es → TallyOf es more → Grown cs es ts us
+pub grown_whole : (cs : List Place) (k : ℕ) (more : Tallies) (es : List Entry) (ts us : List Tallies) → Credited k more ts us → AllByRecursion (λ e. k ≡ choose cs e.place) es → TallyOf es more → Grown cs es ts us
 grown_whole cs k more es ts us c a t q j l h =
     c q j l h ∙ ap (λ z. int_wrap w64 (told q (tallies_at ts j) +ℤ z)) (ap (λ z. cond (eqb k j) z (pos 0)) (t q l) ∙ sym (within_whole cs k j (measured q) es a))
 
@@ -64,11 +64,11 @@ grown_same cs es fs ts us s g q j l h = g q j l h ∙ ap (λ z. int_wrap w64 (to
 
 -- ---- the records of a run, one after the other
 
-all_front : {X : Type 0} (P : X → Type 0) (xs ys : List X) → All P (xs ++ ys) → All P xs
+all_front : {X : Type 0} (P : X → Type 0) (xs ys : List X) → AllByRecursion P (xs ++ ys) → AllByRecursion P xs
 all_front P [] ys a = tt
 all_front P (x ∷ xs) ys a = (a.0, all_front P xs ys a.1)
 
-all_behind : {X : Type 0} (P : X → Type 0) (xs ys : List X) → All P (xs ++ ys) → All P ys
+all_behind : {X : Type 0} (P : X → Type 0) (xs ys : List X) → AllByRecursion P (xs ++ ys) → AllByRecursion P ys
 all_behind P [] ys a = a
 all_behind P (x ∷ xs) ys a = all_behind P xs ys a.1
 

@@ -2,7 +2,7 @@
 use Rattle.std.proofs.Common.{◌≡◌, ℕ, zero, suc, ◌<◌, ◌≤◌, Bool, true, false, cond, List, [], ◌∷◌, length, get_or, ℤ, pos, sym, refl, ap, ◌∙◌, subst, inl, inr, arith, w16, SFits, to_z, of_z}
 use borrow.Author.Differences.{ints}
 use lib.Signed.{lt_z}
-use Rattle.std.specs.List.{ContainsAt as Has, AllByRecursion as All}
+use Rattle.std.specs.List.{ContainsAt as Has, AllByRecursion}
 use Rattle.std.proofs.lemmas.List.{get_or-take, ext_get_or, length-take-le}
 use Rattle.std.proofs.lemmas.Int.{to_z-of_z}
 use Rattle.points.specs.Kinds.{position_place, told}
@@ -31,7 +31,7 @@ near_place (x ∷ p) [] = refl
 near_place (x ∷ p) (y ∷ c) = omega (arith, lin, near_axis_is x y (lt_z y x) (lt_z x y) refl refl, near_place p c)
 
 -- and its leader is the center that the place chooses, if that is a candidate
-pub leader_chosen : (cs : List Place) (ks : List ℕ) (p los his : Place) (l : ℕ) → los ≡ p → his ≡ p → All (λ k. k < length cs) ks → Leader los his cs ks l → Has ks (choose cs p) → l ≡ choose cs p
+pub leader_chosen : (cs : List Place) (ks : List ℕ) (p los his : Place) (l : ℕ) → los ≡ p → his ≡ p → AllByRecursion (λ k. k < length cs) ks → Leader los his cs ks l → Has ks (choose cs p) → l ≡ choose cs p
 leader_chosen cs ks p los his l e f known leads has = listed_chosen cs ks p l known leads.one_of beats has
   where
     at : (k : ℕ) → near los his (center cs k) ≡ dist p (center cs k)

@@ -1,6 +1,6 @@
 -- The three ways of a walk at a box: one candidate is left, the box is cut, or its records are looked at.
 use Rattle.std.proofs.Common.{◌≡◌, ℕ, ◌+◌, ◌-◌, ◌*◌, ◌%◌, ◌^◌, ◌<◌, ◌≤◌, List, ◌++◌, length, get_or, None, ap, ◌∙◌, arith}
-use Rattle.std.specs.List.{ContainsAt as Has, between, AllByRecursion as All}
+use Rattle.std.specs.List.{ContainsAt as Has, between, AllByRecursion}
 use Rattle.std.proofs.ByRecursion.{all_kept_by}
 use Rattle.std.proofs.lemmas.List.{length-map}
 use Rattle.points.specs.Entries.{Entry}
@@ -26,7 +26,7 @@ use Rattle.walk.proofs.Downs.{within_bounds, covered_left, covered_one, total_pa
 use Rattle.walk.proofs.Growing.{tally_of, grown_append, grown_whole, grown_same}
 
 module _ (prunes : Test) (axes : ℕ) (es : List Entry) (cuts : List Cut) (ns : List BoxNode) (order : List ℕ) (cs : List Place) (b : ℕ) (ks ls : List ℕ)
-    (a : Agrees es cuts ns order) (there : b < boxes_after cuts) (few : axes ≤ 4) (sized : All (λ e. length e.place ≡ axes) es)
+    (a : Agrees es cuts ns order) (there : b < boxes_after cuts) (few : axes ≤ 4) (sized : AllByRecursion (λ e. length e.place ≡ axes) es)
     (left : Left prunes (lows axes (node_at ns b).bounds) (highs axes (node_at ns b).bounds) cs ks ls) where
   pub left_at : LeftAt prunes axes es cs cuts b ks ls
   left_at = record { bounds = (node_at ns b).bounds; of_box = a.bounds b there; left = left }

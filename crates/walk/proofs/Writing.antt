@@ -1,6 +1,6 @@
 -- What is written for the records of a run, and for those of a box.
 use Rattle.std.proofs.Common.{◌≡◌, ℕ, ◌+◌, ◌-◌, ◌*◌, ◌<◌, ◌≤◌, true, not, ltb, leb, List, [], ◌∷◌, ◌++◌, length, get_or, take, set, sym, refl, ap, ◌∙◌, subst, inl, inr, arith}
-use Rattle.std.specs.List.{range_with_len, ContainsAt as Has, between, AllByRecursion as All}
+use Rattle.std.specs.List.{range_with_len, ContainsAt as Has, between, AllByRecursion}
 use Rattle.std.proofs.lemmas.List.FromFn.{get_or-range_with_len, length-range_with_len}
 use Rattle.std.proofs.lemmas.List.Edits.{length-between, get_or-between}
 use Rattle.std.proofs.ByRecursion.{all-has, has_append_left, has_get_or, has_push, has_push_cases, has_shuffled}
@@ -63,7 +63,7 @@ module _ (es : List Entry) (cuts : List Cut) (ns : List BoxNode) (order : List �
       ap (λ j. holds cuts b (entry_at es j).place) (sym is) ∙ a.located b (n.from + k) there (omega arith) ∙ and_from (leb n.from (n.from + k)) (ltb (n.from + k) n.to) (le-leb n.from (n.from + k) (omega arith)) (lt-ltb (n.from + k) n.to lk)
 
   -- so what is written for the run is written for the box
-  pub assigned_run : (cs : List Place) (f : ℕ → ℕ) (old new : List ℕ) → All (λ e. (i : ℕ) → e ≡ entry_at es i → Has (between (node_at ns b).from (node_at ns b).to order) i → f i ≡ choose cs e.place) (picked es (between (node_at ns b).from (node_at ns b).to order)) →
+  pub assigned_run : (cs : List Place) (f : ℕ → ℕ) (old new : List ℕ) → AllByRecursion (λ e. (i : ℕ) → e ≡ entry_at es i → Has (between (node_at ns b).from (node_at ns b).to order) i → f i ≡ choose cs e.place) (picked es (between (node_at ns b).from (node_at ns b).to order)) →
       Written f (between (node_at ns b).from (node_at ns b).to order) old new → AssignedIn cs es cuts b old new
   assigned_run cs f old new right w =
       record {

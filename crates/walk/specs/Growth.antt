@@ -1,7 +1,7 @@
 -- What a walk adds to the tallies of groups.
 use Rattle.std.specs.Prelude.{◌≡◌, ℕ, ◌<◌, cond, List, pos, ◌+ℤ◌, ◌==◌}
 use Rattle.std.specs.Int.{int_wrap, w64}
-use Rattle.std.specs.List.{ContainsAt as Has, AllByRecursion as All}
+use Rattle.std.specs.List.{ContainsAt as Has, AllByRecursion}
 use Rattle.points.specs.Entries.{Entry}
 use Rattle.grouping.specs.Choice.{choose}
 use Rattle.grouping.specs.Distance.{Place}
@@ -23,4 +23,4 @@ Grown cs es ts us =
 
 -- every entry belongs to one of the candidates
 abbrev pub Covered : List Place → List ℕ → List Entry → Type 0
-Covered cs ks es = All (λ e. Has ks (choose cs e.place)) es
+Covered cs ks es = AllByRecursion (λ e. Has ks (choose cs e.place)) es

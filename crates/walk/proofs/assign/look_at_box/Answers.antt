@@ -1,5 +1,5 @@
 use Rattle.std.proofs.Common.{◌≡◌, ◌<◌, length, get_or, sym, ap, ◌∙◌, subst, arith}
-use Rattle.std.specs.List.{AllByRecursion as All}
+use Rattle.std.specs.List.{AllByRecursion}
 use Rattle.std.proofs.ByRecursion.{All-get_or}
 use Rattle.std.proofs.lemmas.List.{take_all}
 use Rattle.points.specs.Entries.{entry, entries}
@@ -18,13 +18,13 @@ pub bounds-records-i : goal.bounds-records-i
 bounds-records-i g c =
     let rs = c.records-records.result.now in
     let same : rs ≡ c.args.table.now.recording.records.now = c.records-records.ensures ∙ ap (λ r. r.records.now) c.recording-recording.ensures in
-    All-get_or (λ i. i < length rs) c.run-run.result.now c.loop-i.i-index 0 c.loop-i-test.true (subst (λ xs. All (λ i. i < length xs) c.run-run.result.now) (sym same) c.run-run.ensures.known)
+    All-get_or (λ i. i < length rs) c.run-run.result.now c.loop-i.i-index 0 c.loop-i-test.true (subst (λ xs. AllByRecursion (λ i. i < length xs) c.run-run.result.now) (sym same) c.run-run.ensures.known)
 
 pub offset_bounds-records-i : goal.offset_bounds-records-i
 offset_bounds-records-i g c =
     let rs = c.records-records.result.now in
     let same : rs ≡ c.args.table.now.recording.records.now = c.records-records.ensures ∙ ap (λ r. r.records.now) c.recording-recording.ensures in
-    omega (arith, All-get_or (λ i. i < length rs) c.run-run.result.now c.loop-i.i-index 0 c.loop-i-test.true (subst (λ xs. All (λ i. i < length xs) c.run-run.result.now) (sym same) c.run-run.ensures.known))
+    omega (arith, All-get_or (λ i. i < length rs) c.run-run.result.now c.loop-i.i-index 0 c.loop-i-test.true (subst (λ xs. AllByRecursion (λ i. i < length xs) c.run-run.result.now) (sym same) c.run-run.ensures.known))
 
 pub bounds-out-i : goal.bounds-out-i
 bounds-out-i g c =

@@ -1,5 +1,5 @@
 use Rattle.std.proofs.Common.{◌≡◌, length, ap, subst}
-use Rattle.std.specs.List.{ContainsAt as Has, AllByRecursion as All}
+use Rattle.std.specs.List.{ContainsAt as Has, AllByRecursion}
 use Rattle.std.proofs.ByRecursion.{All-map}
 use Rattle.points.specs.Entries.{entry}
 use Rattle.grouping.proofs.Totals.{all_of}
@@ -28,7 +28,7 @@ returns g c =
     let left : Left prunes (lows axes (node_at t.nodes b).bounds) (highs axes (node_at t.nodes b).bounds) (among axes s) (listed s) (listed r) =
     subst (λ x. Left prunes (lows axes x) (highs axes x) (among axes s) (listed s) (listed r)) is (subst (λ m. Left prunes (lows m c.node-node.result.bounds) (highs m c.node-node.result.bounds) (among m s) (listed s) (listed r)) n c.prune.ensures.left) in
     let es = entries_of g.R.Point g.R.Record t in
-    let sized : All (λ e. length e.place ≡ axes) es = All-map (λ e. length e.place ≡ axes) (λ x. entry g.R.Point g.R.Record x) t.recording.records.now (all_of g.met.R.Point.sized t.recording.records.now) in
+    let sized : AllByRecursion (λ e. length e.place ≡ axes) es = All-map (λ e. length e.place ≡ axes) (λ x. entry g.R.Point g.R.Record x) t.recording.records.now (all_of g.met.R.Point.sized t.recording.records.now) in
     let keeps = subst (λ x. (p : Place) → Inside (lows axes x) (highs axes x) p → Has (listed s) (choose (among axes s) p) → Has (listed r) (choose (among axes s) p)) is
     (subst (λ m. (p : Place) → Inside (lows m c.node-node.result.bounds) (highs m c.node-node.result.bounds) p → Has (listed s) (choose (among m s) p) → Has (listed r) (choose (among m s) p)) n c.prune.ensures.covers) in
     record {

@@ -1,5 +1,5 @@
 use Rattle.std.proofs.Common.{◌≡◌, ◌+◌, ◌-◌, ◌*◌, ◌%◌, ◌^◌, ◌<◌, ◌≤◌, length, Some, None, sym, ap, ◌∙◌, subst, arith}
-use Rattle.std.specs.List.{AllByRecursion as All}
+use Rattle.std.specs.List.{AllByRecursion}
 use Rattle.std.proofs.ByRecursion.{all-has, All-map}
 use Rattle.std.proofs.lemmas.List.{length-map, length-take-le}
 use Rattle.points.specs.Entries.{entry}
@@ -29,7 +29,7 @@ returns-then-count-eq1 g t c =
     let left = c.prune_box-left.result in
     let b = c.args.b in
     let es = entries_of g.R.Point g.R.Record table in
-    let sized : All (λ e. length e.place ≡ axes) es = All-map (λ e. length e.place ≡ axes) (λ x. entry g.R.Point g.R.Record x) table.recording.records.now (all_of g.met.R.Point.sized table.recording.records.now) in
+    let sized : AllByRecursion (λ e. length e.place ≡ axes) es = All-map (λ e. length e.place ≡ axes) (λ x. entry g.R.Point g.R.Record x) table.recording.records.now (all_of g.met.R.Point.sized table.recording.records.now) in
     let one : length (listed left) ≡ 1 = sym c.count-2.ensures.is ∙ c.if-count-eq1.true in
     let k = c.get.result.number in
     let credited : Credited k (node_at table.nodes b).tallies c.args.out.now.groups c.credit.new.out.groups =
@@ -51,7 +51,7 @@ returns-in-Some g t c =
     let es = entries_of g.R.Point g.R.Record table in
     let cuts = cuts_of table in
     let prunes = g.T.Rule.prunes c.args.rule.now in
-    let sized : All (λ e. length e.place ≡ axes) es = All-map (λ e. length e.place ≡ axes) (λ x. entry g.R.Point g.R.Record x) table.recording.records.now (all_of g.met.R.Point.sized table.recording.records.now) in
+    let sized : AllByRecursion (λ e. length e.place ≡ axes) es = All-map (λ e. length e.place ≡ axes) (λ x. entry g.R.Point g.R.Record x) table.recording.records.now (all_of g.met.R.Point.sized table.recording.records.now) in
     let several : length (listed left) ≡ 1 → ⊥ = λ e. c.if-count-eq1.false (c.count-2.ensures.is ∙ e) in
     let queries = c.note.ensures.queries ∙ ap (λ n. (c.args.out.now.queries + (n - 1)) % 2 ^ 64) c.count.ensures.is in
     let cut : (node_at table.nodes b).cut ≡ Some i = ap (λ m. m.cut) (sym (c.node-node.ensures.is c.requires)) ∙ c.in-Some.is in
@@ -79,7 +79,7 @@ returns-in-None g t c =
     let es = entries_of g.R.Point g.R.Record table in
     let cuts = cuts_of table in
     let prunes = g.T.Rule.prunes c.args.rule.now in
-    let sized : All (λ e. length e.place ≡ axes) es = All-map (λ e. length e.place ≡ axes) (λ x. entry g.R.Point g.R.Record x) table.recording.records.now (all_of g.met.R.Point.sized table.recording.records.now) in
+    let sized : AllByRecursion (λ e. length e.place ≡ axes) es = All-map (λ e. length e.place ≡ axes) (λ x. entry g.R.Point g.R.Record x) table.recording.records.now (all_of g.met.R.Point.sized table.recording.records.now) in
     let several : length (listed left) ≡ 1 → ⊥ = λ e. c.if-count-eq1.false (c.count-2.ensures.is ∙ e) in
     let queries = c.note.ensures.queries ∙ ap (λ n. (c.args.out.now.queries + (n - 1)) % 2 ^ 64) c.count.ensures.is in
     let uncut : (node_at table.nodes b).cut ≡ None = ap (λ m. m.cut) (sym (c.node-node.ensures.is c.requires)) ∙ c.in-None.is in

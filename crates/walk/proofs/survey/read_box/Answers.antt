@@ -1,5 +1,5 @@
 use Rattle.std.proofs.Common.{◌≡◌, ◌+◌, ◌*◌, ◌%◌, ◌^◌, ◌<◌, ◌≤◌, length, get_or, take, sym, ap, ◌∙◌, subst, ap₂, mul-le-mul, arith}
-use Rattle.std.specs.List.{AllByRecursion as All}
+use Rattle.std.specs.List.{AllByRecursion}
 use Rattle.std.proofs.ByRecursion.{All-get_or}
 use Rattle.std.proofs.lemmas.List.{take_all, length-take-le}
 use Rattle.points.specs.Entries.{entry, entries}
@@ -18,14 +18,14 @@ pub bounds-records-i : goal.bounds-records-i
 bounds-records-i g c =
     let rs = c.records-records.result.now in
     let same : rs ≡ c.args.table.now.recording.records.now = c.records-records.ensures ∙ ap (λ r. r.records.now) c.recording-recording.ensures in
-    let known = subst (λ xs. All (λ i. i < length xs) c.run-run.result.now) (sym same) c.run-run.ensures.known in
+    let known = subst (λ xs. AllByRecursion (λ i. i < length xs) c.run-run.result.now) (sym same) c.run-run.ensures.known in
     All-get_or (λ i. i < length rs) c.run-run.result.now c.loop-i.i-index 0 c.loop-i-test.true known
 
 pub offset_bounds-records-i : goal.offset_bounds-records-i
 offset_bounds-records-i g c =
     let rs = c.records-records.result.now in
     let same : rs ≡ c.args.table.now.recording.records.now = c.records-records.ensures ∙ ap (λ r. r.records.now) c.recording-recording.ensures in
-    let known = subst (λ xs. All (λ i. i < length xs) c.run-run.result.now) (sym same) c.run-run.ensures.known in
+    let known = subst (λ xs. AllByRecursion (λ i. i < length xs) c.run-run.result.now) (sym same) c.run-run.ensures.known in
     omega (arith, All-get_or (λ i. i < length rs) c.run-run.result.now c.loop-i.i-index 0 c.loop-i-test.true known)
 
 pub loop-i-preserved : goal.loop-i-preserved
@@ -37,7 +37,7 @@ loop-i-preserved g c =
     let s = c.args.candidates.now in
     let r = c.index-records-i.result in
     let same : rs ≡ c.args.table.now.recording.records.now = c.records-records.ensures ∙ ap (λ x. x.records.now) c.recording-recording.ensures in
-    let known = All-get_or (λ n. n < length rs) run i 0 c.loop-i-test.true (subst (λ xs. All (λ n. n < length xs) run) (sym same) c.run-run.ensures.known) in
+    let known = All-get_or (λ n. n < length rs) run i 0 c.loop-i-test.true (subst (λ xs. AllByRecursion (λ n. n < length xs) run) (sym same) c.run-run.ensures.known) in
     let e = entry g.R.Point g.R.Record r in (
       run_turn (among g.R.Point.axes s) (listed s) es run i c.args.out.now.groups c.loop-i.out.groups c.credit.new.out.groups _ _ e c.loop-i-test.true (entry_of g.R.Point g.R.Record rs (get_or run i 0) r known c.index-records-i.is) c.loop-i.invariant.0 c.nearest_of.ensures.chosen c.credit.ensures.credited (tally_one e _ c.of_record.ensures),
       c.credit.ensures.distances ∙ c.loop-i.invariant.1,

@@ -1,5 +1,5 @@
 use Rattle.std.proofs.Common.{◌≡◌, ◌-◌, ◌<◌, ◌≤◌, [], length, take, sym, refl, ap, ◌∙◌, subst, arith}
-use Rattle.std.specs.List.{AllByRecursion as All}
+use Rattle.std.specs.List.{AllByRecursion}
 use Rattle.std.proofs.lemmas.List.{length-map, length-take-le}
 use Rattle.points.specs.Entries.{entry, entries}
 use Rattle.boxes.specs.Runs.{picked}
@@ -17,7 +17,7 @@ uncut_box-root-requires g c =
     let z : length rs - 0 ≡ length rs = omega arith in
     let long : length (take (length rs - 0) order) ≡ length rs - 0 = length-take-le (length rs - 0) order (omega (arith, c.numbers-order.ensures.long)) in
     record {
-      known = subst (λ m. All (λ n. n < length rs) (take m order)) (sym z) (in_order_known order c.numbers-order.ensures.long c.numbers-order.ensures.each (length rs) few);
+      known = subst (λ m. AllByRecursion (λ n. n < length rs) (take m order)) (sym z) (in_order_known order c.numbers-order.ensures.long c.numbers-order.ensures.each (length rs) few);
       some = omega arith;
       few = omega arith;
     }

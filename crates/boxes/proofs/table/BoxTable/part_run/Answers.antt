@@ -1,5 +1,5 @@
 use Rattle.std.proofs.Common.{◌≡◌, ◌-◌, ◌<◌, ◌≤◌, length, sym, refl, ◌∙◌, subst, arith}
-use Rattle.std.specs.List.{between, AllByRecursion as All}
+use Rattle.std.specs.List.{between, AllByRecursion}
 use Rattle.std.proofs.lemmas.List.Edits.{length-between}
 use Rattle.std.proofs.lemmas.Slice.{between-put_mid}
 use Rattle.points.specs.Entries.{entries}
@@ -15,7 +15,7 @@ part-requires g c =
     let from = c.args.from in
     let to = c.args.to in
     let few = t.recording.few in
-    subst (λ rs. All (λ n. n < length rs) (between from to t.order)) (sym c.records-records.ensures) (run_known t.order _ from to t.known c.requires.1 (omega (arith, few, t.long)))
+    subst (λ rs. AllByRecursion (λ n. n < length rs) (between from to t.order)) (sym c.records-records.ensures) (run_known t.order _ from to t.known c.requires.1 (omega (arith, few, t.long)))
 
 pub invariant_of-self : goal.invariant_of-self
 invariant_of-self g c =
