@@ -22,7 +22,6 @@ CHOSEN = {
     "add-*ℤ": "add_times",
     "neg-*ℤ": "neg_times",
     "getD-mapped": "slice_index_mapped",
-    "tooMany": "too_many_are",
 }
 
 

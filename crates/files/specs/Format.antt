@@ -54,13 +54,13 @@ when_ended kind zero = Some (cond (is_centers kind) NoCenter NoRecord)
 when_ended kind (suc n) = None
 
 -- what is said of a row over: of centers the 33rd is refused before the table's length is looked at
-abbrev pub too_many_are : FileKind → ℕ → FileFault
-too_many_are kind n = cond (is_centers kind) (cond (n == 32) (TooManyCenters (n + 2)) (TooManyRows (n + 2))) (TooManyRows (n + 2))
+abbrev pub too_many : FileKind → ℕ → FileFault
+too_many kind n = cond (is_centers kind) (cond (n == 32) (TooManyCenters (n + 2)) (TooManyRows (n + 2))) (TooManyRows (n + 2))
 
 -- How a file goes on after n right rows, and what is then said of it (None: it is accepted). The line of row n is n + 2.
 pub data Ending (kind : FileKind) (order : List ℕ) (room n : ℕ) : List ℕ → Option FileFault → Type 0 where
   ended : Ending kind order room n [] (when_ended kind n)
-  over : {rest : List ℕ} → 0 < length rest → n ≡ most kind room → Ending kind order room n rest (Some (too_many_are kind n))
+  over : {rest : List ℕ} → 0 < length rest → n ≡ most kind room → Ending kind order room n rest (Some (too_many kind n))
   wrong : {rest : List ℕ} {fault : RowFault} → n < most kind room → LineWrong kind order rest fault → Ending kind order room n rest (Some (Row (n + 2) fault))
 
 -- The right rows at the front of a file, and what is said of it: the first fault by the rules, or None where it is accepted.

@@ -7,7 +7,7 @@ use Rattle.rows.specs.declared.order.Order.{Order}
 use Rattle.rows.specs.Lines.{Fits, cells_in, columns_in, names_in}
 use Rattle.faults.specs.declared.file.FileFault.{FileFault}
 use Rattle.faults.specs.declared.file.FileFault.TheVariants.{Row}
-use Rattle.files.specs.Format.{Ending, LineWrong, Outcome, Unnamed, line_of, lines_of, most, too_many_are}
+use Rattle.files.specs.Format.{Ending, LineWrong, Outcome, Unnamed, line_of, lines_of, most, too_many}
 
 -- the bytes begin with the names in this order, before those that are left; or they do not begin with the names
 abbrev pub HeaderRead : FileKind → List ℕ → List ℕ → Option Order → Type 0
@@ -17,7 +17,7 @@ HeaderRead kind bytes left None = Unnamed kind bytes
 -- a table of so many rows takes one more after n, or what is said of the row over
 abbrev pub RoomLeft : FileKind → ℕ → ℕ → Result (Unit {0}) FileFault → Type 0
 RoomLeft kind n room (Ok u) = n < most kind room
-RoomLeft kind n room (Err fault) = (n ≡ most kind room) × (fault ≡ too_many_are kind n)
+RoomLeft kind n room (Err fault) = (n ≡ most kind room) × (fault ≡ too_many kind n)
 
 -- the row whose line stands first, and what stands after the line; or what is wrong with the line
 abbrev pub LineRead : {R : Type 0} → FileKind → (R → List ℤ) → List ℕ → List ℕ → List ℕ → Result R RowFault → Type 0

@@ -17,7 +17,7 @@ use Rattle.pruning.specs.declared.contender.Contender.{Contender}
 use Rattle.pruning.specs.Pruning.{numbers_of, Fit, Nearer, Leader, keeps, Left, Covers, Reached, from_all, pruned, inner, PrunesNone, ReachedCovers, LeadsAll}
 use Rattle.pruning.specs.Rules.{Test}
 use Rattle.pruning.proofs.Lists.{has_some, has_kept, rises_kept}
-use Rattle.pruning.specs.Safety.{wins_beats}
+use Rattle.pruning.proofs.Safety.{wins_beats}
 
 pub inside_length : {los his p : Place} → Inside los his p → length p ≡ length los
 inside_length none = refl

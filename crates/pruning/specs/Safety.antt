@@ -1,4 +1,4 @@
--- The laws of the rules.
+-- The rules are safe: an impl of a rule cites these as the proof of its law.
 use Rattle.std.proofs.Common.{arith, sym, ◌∙◌, inl, inr}
 use Rattle.std.specs.Prelude.{◌≡◌, ℕ, true, List, [], ◌∷◌, length, ℤ, ◌<ℤ◌, int_le, int_lt, nat_lt}
 use Rattle.std.proofs.lemmas.Int.{by_lt_z, ints}
@@ -9,31 +9,14 @@ use Rattle.grouping.specs.Choice.{Beats, center}
 use Rattle.grouping.proofs.Boxes.{corner_decides, far_below_near}
 use Rattle.pruning.specs.Rules.{Wins, wins, Safe, min_max_prunes, corner_prunes, CornerPrunes}
 
--- at the places of two centers it is what grouping says of them
-pub wins_beats : (cs : List Place) (p : Place) (k j : ℕ) → Wins p k (center cs k) j (center cs j) → Beats cs p k j
-wins_beats cs p k j w = w
-
 -- the test tells it
 pub wins_true : (p : Place) (i : ℕ) (l : Place) (j : ℕ) (c : Place) → wins p i l j c ≡ true → Wins p i l j c
 wins_true p i l j c e = elim (cases_Bool (nat_lt i j)) [
   | inl t ↦
-      let le : int_le (dist p l) (dist p c) ≡ true = sym (cond-true (nat_lt i j) _ _ t) ∙ e in
+      let le = sym (cond-true (nat_lt i j) _ _ t) ∙ e in
       by_lt_z (dist p l) (dist p c) (λ less. inl less) (λ most. inr (omega (arith, ints), ltb-true i j t))
-  | inr t ↦ let lt : int_lt (dist p l) (dist p c) ≡ true = sym (cond-false (nat_lt i j) _ _ t) ∙ e in inl (omega (arith, ints))
+  | inr t ↦ let lt = sym (cond-false (nat_lt i j) _ _ t) ∙ e in inl (omega (arith, ints))
 ]
-
-wins_from : (p : Place) (i : ℕ) (l : Place) (j : ℕ) (c : Place) → Wins p i l j c → wins p i l j c ≡ true
-wins_from p i l j c (inl w) = cond_both (nat_lt i j) (int_le (dist p l) (dist p c)) (int_lt (dist p l) (dist p c)) (λ b. b ≡ true) (λ t. (below (dist p l) (dist p c) w).0) (λ t. (below (dist p l) (dist p c) w).1)
-  where
-    below : (x y : ℤ) → x <ℤ y → (int_le x y ≡ true) × (int_lt x y ≡ true)
-    below x y h = (grind (arith, ints), grind (arith, ints))
-wins_from p i l j c (inr w) = cond-true (nat_lt i j) (int_le (dist p l) (dist p c)) (int_lt (dist p l) (dist p c)) (lt-ltb i j w.1) ∙ equal (dist p l) (dist p c) w.0
-  where
-    equal : (x y : ℤ) → x ≡ y → int_le x y ≡ true
-    equal x y e = grind (arith, ints)
-
-pub corner_prunes_is : CornerPrunes
-corner_prunes_is los his i l j c = (wins_true (corner los his l c) i l j c, wins_from (corner los his l c) i l j c)
 
 -- a leader that wins at the corner wins at every place of the box
 corner_wins : (los his : Place) (i : ℕ) (l : Place) (j : ℕ) (c : Place) → length l ≡ length los → length c ≡ length los →

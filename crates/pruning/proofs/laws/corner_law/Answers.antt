@@ -1,4 +1,4 @@
-use Rattle.pruning.specs.Safety.{corner_prunes_is}
+use Rattle.pruning.proofs.Safety.{corner_prunes_is}
 use Rattle.pruning.proofs.laws.corner_law.Goals as goal
 
 pub returns : goal.returns
