@@ -5,7 +5,7 @@ use Rattle.grouping.specs.Distance.{Place}
 use Rattle.grouping.specs.Examples.{pair}
 use Rattle.pruning.specs.Rules.{corner_prunes, min_max_prunes}
 
--- a box, a leader and a candidate with their numbers, and which of the rules prune the candidate
+-- the bounds of a box, two numbered places of which the first leads, and which of the rules prune the second
 pub record Figure : Type 0 where
   pub least : Place
   pub greatest : Place
