@@ -2,12 +2,11 @@
 use Rattle.std.proofs.Common.{◌≡◌, ℕ, ◌<◌, List, [], ◌∷◌, length, pos, refl, ap, inl, inr, arith}
 use Rattle.points.specs.Entries.{Entry}
 use Rattle.boxes.specs.declared.cut.Cut.{Cut}
-use Rattle.boxes.specs.declared.fault.CutFault.{CutFault}
 use Rattle.boxes.specs.declared.fault.CutFault.TheVariants.{NoUncutBox, NoAxis, Full, OneSided}
 use Rattle.boxes.specs.Examples.{four, WorkedFigures, WorkedBoxes}
-use Rattle.boxes.specs.Faults.{number_of, lower_side, upper_side, Against, Refused, Accepted}
+use Rattle.boxes.specs.Faults.{lower_side, upper_side, Against, Refused, Accepted}
 use Rattle.boxes.specs.Regions.{cut_by, holds, regions}
-use Rattle.boxes.proofs.Sides.{first_refused, last_refused, accepted}
+use Rattle.boxes.proofs.Sides.{refused, accepted}
 
 -- box 0 before the first cut
 module _ (es : List Entry) (c : Cut) (root : c.parent ≡ 0) where
@@ -31,19 +30,13 @@ worked_figures = (yes_at 101 (omega arith) (omega arith), (yes_at 112 (omega ari
     yes_at value l u = let c = cut_by 0 0 (pos value) in accepted 2 four [] c (free four c refl 2) (λ h. omega arith) (room four c refl 2) (both four c refl 2 l u)
 
     one_sided : (value : ℕ) → Against 2 four [] (cut_by 0 0 (pos value)) OneSided → Refused 2 four [] (cut_by 0 0 (pos value)) OneSided
-    one_sided value h = let c = cut_by 0 0 (pos value) in last_refused 2 four [] c (free four c refl 2) (λ h. omega arith) (room four c refl 2) h
+    one_sided value h = let c = cut_by 0 0 (pos value) in refused 2 four [] c OneSided h (λ l. free four c refl 2) (λ l k. omega arith) (λ l. room four c refl 2)
 
     no_axis : Refused 2 four [] (cut_by 0 2 (pos 101)) NoAxis
-    no_axis = record { reason = omega arith; first = first }
-      where
-        first : (other : CutFault) → number_of other < 5 → Against 2 four [] (cut_by 0 2 (pos 101)) other → ⊥
-        first NoUncutBox l = free four (cut_by 0 2 (pos 101)) refl 2
-        first NoAxis l = absurd (omega arith)
-        first Full l = absurd (omega arith)
-        first OneSided l = absurd (omega arith)
+    no_axis = let c = cut_by 0 2 (pos 101) in refused 2 four [] c NoAxis (omega arith) (λ l. free four c refl 2) (λ l. absurd (omega arith)) (λ l. absurd (omega arith))
 
     again : Refused 2 four (cut_by 0 0 (pos 101) ∷ []) (cut_by 0 1 (pos 20)) NoUncutBox
-    again = first_refused 2 four (cut_by 0 0 (pos 101) ∷ []) (cut_by 0 1 (pos 20)) (inr (λ u. u 0 (omega arith) refl))
+    again = refused 2 four (cut_by 0 0 (pos 101) ∷ []) (cut_by 0 1 (pos 20)) NoUncutBox (inr (λ u. u 0 (omega arith) refl)) (λ l. absurd (omega arith)) (λ l. absurd (omega arith)) (λ l. absurd (omega arith))
 
 pub worked_boxes : WorkedBoxes
 unfolding holds regions

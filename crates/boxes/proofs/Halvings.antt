@@ -1,27 +1,32 @@
 -- The steps of halving.
-use Rattle.std.proofs.Common.{◌≡◌, ℕ, ◌+◌, ◌-◌, ◌/◌, ◌<◌, ◌≤◌, Bool, true, false, not, List, [], length, get_or, ℤ, pos, ◌+ℤ◌, ◌≤ℤ◌, ◌<ℤ◌, None, filter, sym, ap, ◌∙◌, subst, inl, inr, arith}
+use Rattle.std.proofs.Common.{◌≡◌, ℕ, ◌+◌, ◌/◌, ◌<◌, ◌≤◌, Bool, true, false, not, List, [], ◌∷◌, ◌++◌, length, get_or, ℤ, pos, ◌+ℤ◌, ◌≤ℤ◌, ◌<ℤ◌, Ok, Err, Result, filter, sym, ap, ◌∙◌, subst, inl, inr, arith}
 use borrow.Author.Differences.{ints}
 use lib.Signed.{lt_z}
 use Rattle.std.specs.List.{ContainsAt as Has}
 use Rattle.std.proofs.ByRecursion.{all-has, has_get_or}
 use Rattle.std.proofs.lemmas.List.{get_or-map, length-map}
 use Rattle.std.proofs.lemmas.Bool.{true≢false, false≢true}
+use Rattle.points.specs.declared.point.Point.{Ghosts as PointGhosts}
+use Rattle.points.specs.declared.record.Record.{Ghosts as RecordGhosts}
 use Rattle.points.specs.Entries.{Entry}
 use Rattle.points.specs.Kinds.{position_place}
 use Rattle.grouping.specs.Distance.{number}
 use Rattle.boxes.specs.declared.cut.Cut.{Cut}
+use Rattle.boxes.specs.declared.fault.CutFault.{CutFault}
 use Rattle.boxes.specs.declared.fault.CutFault.TheVariants.{NoUncutBox, OneSided}
-use Rattle.boxes.specs.declared.node.BoxNode.{BoxNode}
-use Rattle.boxes.specs.Faults.{Against, Accepted}
-use Rattle.boxes.specs.Halving.{Spread, Halvable, Largest, Halves, Halvings, more, Rests, Rated, LargestBelow, Stepped}
-use Rattle.boxes.specs.Regions.{below, boxes_after, contents, cut_by}
+use Rattle.boxes.specs.declared.table.BoxTable.{BoxTable}
+use Rattle.std.specs.Result.{MatchResult, is_ok}
+use Rattle.boxes.specs.Faults.{Against, Refused, Accepted}
+use Rattle.boxes.specs.Halving.{Spread, Halvable, Largest, Halves, Halvings, more, Rests, Stepped}
+use Rattle.boxes.specs.Regions.{below, boxes_after, contents, cut_by, Uncut}
 use Rattle.boxes.specs.Runs.{nothing}
-use Rattle.boxes.specs.Standing.{Agrees}
-use Rattle.boxes.specs.Table.{node_at, HasCuts, HasRuns}
+use Rattle.boxes.specs.Standing.{cuts_of, entries_of}
+use Rattle.boxes.specs.Table.{node_at}
 use Rattle.boxes.specs.Tells.{numbers_on, Lowest, Highest}
 use Rattle.boxes.specs.Widths.{width_on, WidestOf}
 use Rattle.boxes.proofs.Sameness.{has_kept}
-use Rattle.boxes.proofs.Sides.{box_length, not_free, accepted}
+use Rattle.boxes.proofs.Sides.{accepted}
+use Rattle.boxes.proofs.Tables.{stands}
 use Rattle.boxes.proofs.Widths.{apart_makes}
 
 -- ---- how wide entries are
@@ -45,72 +50,50 @@ same_spread axis es y z v w s t =
     let high = highest_only axis es (y +ℤ pos v) (z +ℤ pos w) s.highest t.highest in
     omega (arith, ints)
 
--- a box that cannot be halved
-none_rated : (axes : ℕ) (es : List Entry) (cuts : List Cut) (b : ℕ) → (Halvable axes es cuts b → ⊥) → Rated axes es cuts b 0
-none_rated axes es cuts b h = record { can = λ l. absurd (omega arith); counts = λ l. absurd (omega arith); cannot = λ e. h }
-
--- after all boxes
-pub largest_some : (axes : ℕ) (es : List Entry) (cuts : List Cut) (i b n : ℕ) → LargestBelow axes es cuts i b n → boxes_after cuts ≤ i → (n ≡ 0 → ⊥) → Largest axes es cuts b
-largest_some axes es cuts i b n g all ne =
-    let l : 0 < n = omega arith in
-    let is = g.rated.counts l in
-    record { halvable = g.rated.can l; most = λ d h. omega (arith, is, g.most d (omega (arith, h.there)) h); first = λ d k h. omega (arith, is, g.first d k h) }
-
 -- ---- what the table says of a box
 
-module _ (axes : ℕ) (es : List Entry) (cuts : List Cut) (ns : List BoxNode) (order : List ℕ) (a : Agrees es cuts ns order) (long : length es ≤ length order) (runs : HasRuns ns (length cuts) (length es)) (few : axes ≤ 4) (b : ℕ) where
-  pub rated_cut : HasCuts ns (length cuts) → (b < boxes_after cuts → (node_at ns b).cut ≡ None → ⊥) → Rated axes es cuts b 0
-  rated_cut links n = none_rated axes es cuts b (λ h. elim (not_free es cuts ns order a links (cut_by b 0 (pos 0)) axes n) [ inl l ↦ omega (arith, h.there) | inr cut ↦ cut h.uncut ])
+module _ {R : Type 0} {kindP : PointGhosts R} {kindR : RecordGhosts R} (t : BoxTable R kindR kindP) (axes : ℕ) (few : axes ≤ 4) (b : ℕ) (there : b < boxes_after (cuts_of t)) where
+  low : ℕ → ℤ
+  low axis = number (position_place (node_at t.nodes b).bounds.least) axis
 
-  module _ (there : b < boxes_after cuts) where
-    pub rated_few : (node_at ns b).to - (node_at ns b).from ≤ 16 → Rated axes es cuts b 0
-    rated_few l = none_rated axes es cuts b (λ h. omega (arith, h.many, box_length es cuts ns order a long runs b there))
+  spread : (axis : ℕ) → axis < 4 → Spread axis (contents (cuts_of t) b (entries_of t)) (low axis) (width_on (node_at t.nodes b).bounds axis)
+  unfolding low width_on
+  spread axis l =
+      let es = contents (cuts_of t) b (entries_of t) in
+      let lowest = ((stands t).bounds b there).low axis l in
+      let highest = ((stands t).bounds b there).high axis l in
+      let high = number (position_place (node_at t.nodes b).bounds.greatest) axis in
+      record {
+        lowest = lowest;
+        highest = subst (Highest axis es) (apart_makes (low axis) high (all-has (λ x. low axis ≤ℤ x) (numbers_on axis es) high lowest.below highest.one_of)) highest;
+      }
 
-    low : ℕ → ℤ
-    low axis = number (position_place (node_at ns b).bounds.least) axis
+  width_is : (axis w : ℕ) (z : ℤ) → axis < axes → Spread axis (contents (cuts_of t) b (entries_of t)) z w → w ≡ width_on (node_at t.nodes b).bounds axis
+  width_is axis w z l s = same_spread axis (contents (cuts_of t) b (entries_of t)) z (low axis) w (width_on (node_at t.nodes b).bounds axis) s (spread axis (omega arith))
 
-    spread : (axis : ℕ) → axis < 4 → Spread axis (contents cuts b es) (low axis) (width_on (node_at ns b).bounds axis)
-    unfolding low width_on
-    spread axis l =
-        let lowest = (a.bounds b there).low axis l in
-        let highest = (a.bounds b there).high axis l in
-        let high = number (position_place (node_at ns b).bounds.greatest) axis in
-        record {
-          lowest = lowest;
-          highest = subst (Highest axis (contents cuts b es)) (apart_makes (low axis) high (all-has (λ x. low axis ≤ℤ x) (numbers_on axis (contents cuts b es)) high lowest.below highest.one_of)) highest;
-        }
+  -- the box can be halved if it is uncut, has many entries, and is wide on the axis on which it is widest
+  module _ (axis : ℕ) (w : WidestOf (node_at t.nodes b).bounds axes axis) where
+    pub halvable : Uncut (cuts_of t) b → 16 < length (contents (cuts_of t) b (entries_of t)) → 0 < width_on (node_at t.nodes b).bounds axis → Halvable axes (entries_of t) (cuts_of t) b
+    halvable u many some = record { there = there; uncut = u; many = many; wide = (axis, width_on (node_at t.nodes b).bounds axis, low axis, w.within, some, spread axis (omega (arith, w.within))) }
 
-    width_is : (axis w : ℕ) (z : ℤ) → axis < axes → Spread axis (contents cuts b es) z w → w ≡ width_on (node_at ns b).bounds axis
-    width_is axis w z l s = same_spread axis (contents cuts b es) z (low axis) w (width_on (node_at ns b).bounds axis) s (spread axis (omega arith))
+    pub halvable_wide : Halvable axes (entries_of t) (cuts_of t) b → 0 < width_on (node_at t.nodes b).bounds axis
+    halvable_wide h = let s = h.wide in omega (arith, s.4, width_is s.0 s.1 s.2 s.3 s.5, w.most s.0 s.3)
 
-    pub rated_flat : (axis : ℕ) → WidestOf (node_at ns b).bounds axes axis → width_on (node_at ns b).bounds axis ≡ 0 → Rated axes es cuts b 0
-    rated_flat axis w e =
-        none_rated axes es cuts b
-        (λ h. let s = h.wide in omega (arith, s.4, width_is s.0 s.1 s.2 s.3 s.5, w.most s.0 s.3, e))
-
-    pub rated_some : (axis : ℕ) → (node_at ns b).cut ≡ None → 16 < (node_at ns b).to - (node_at ns b).from → axis < axes → 0 < width_on (node_at ns b).bounds axis → Rated axes es cuts b ((node_at ns b).to - (node_at ns b).from)
-    rated_some axis u many l some =
-        let n = box_length es cuts ns order a long runs b there in
-        let h : Halvable axes es cuts b =
-        record { there = there; uncut = a.uncut b there u; many = omega (arith, n); wide = (axis, width_on (node_at ns b).bounds axis, low axis, l, some, spread axis (omega arith)) } in
-        record { can = λ k. h; counts = λ k. sym n; cannot = λ e. absurd (omega arith) }
-
-    pub halves : (axis : ℕ) (value : ℤ) → Largest axes es cuts b → WidestOf (node_at ns b).bounds axes axis →
-        (0 < width_on (node_at ns b).bounds axis → value ≡ number (position_place (node_at ns b).bounds.least) axis +ℤ pos (width_on (node_at ns b).bounds axis / 2 + 1)) → Halves axes es cuts (cut_by b axis value)
+    pub halves : (value : ℤ) → Largest axes (entries_of t) (cuts_of t) b → (0 < width_on (node_at t.nodes b).bounds axis → value ≡ number (position_place (node_at t.nodes b).bounds.least) axis +ℤ pos (width_on (node_at t.nodes b).bounds axis / 2 + 1)) →
+        Halves axes (entries_of t) (cuts_of t) (cut_by b axis value)
     unfolding low
-    halves axis value g w middle =
-        let s = g.halvable.wide in
+    halves value g middle =
         record {
           largest = g;
           low = low axis;
-          width = width_on (node_at ns b).bounds axis;
+          width = width_on (node_at t.nodes b).bounds axis;
           widest = record {
             within = w.within;
             spread = spread axis (omega (arith, w.within));
-            most = λ k v z l t. omega (arith, width_is k v z l t, w.most k l);
-            first = λ k v z l t. omega (arith, width_is k v z (omega (arith, w.within)) t, w.first k l);
+            most = λ k v z l s. omega (arith, width_is k v z l s, w.most k l);
+            first = λ k v z l s. omega (arith, width_is k v z (omega (arith, w.within)) s, w.first k l);
           };
-          middle = middle (omega (arith, s.4, width_is s.0 s.1 s.2 s.3 s.5, w.most s.0 s.3));
+          middle = middle (halvable_wide g.halvable);
         }
 
 -- ---- a halving is accepted
@@ -148,6 +131,12 @@ halves_accepted axes es cuts c h room = accepted axes es cuts c free (λ l. omeg
     sides (inr e) =
         let one = has_unmapped c.axis (contents cuts c.parent es) (h.low +ℤ pos h.width) h.widest.spread.highest.one_of in
         not_empty (λ x. not (below c x.place)) (contents cuts c.parent es) one.0 one.1 (lies_above _ h.low c.value h.width some one.2 h.middle) e
+
+-- so a halving that is tried is done
+pub stepped : (P Q : Type 0) (axes : ℕ) (es : List Entry) (cuts made : List Cut) (c : Cut) (r : Result (Unit {0}) CutFault) → Halves axes es cuts c → length cuts < 127 →
+    MatchResult r (λ _. P) (λ f. Refused axes es cuts c f) → MatchResult r (λ _. made ≡ cuts ++ c ∷ []) (λ _. Q) → Stepped axes es cuts (is_ok r) made
+stepped P Q axes es cuts made c (Ok x) h room judged noted = (room, (c, h, noted))
+stepped P Q axes es cuts made c (Err f) h room judged noted = absurd (halves_accepted axes es cuts c h room f judged.reason)
 
 -- ---- one halving more, or none
 

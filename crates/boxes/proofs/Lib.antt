@@ -9,7 +9,9 @@ pub mod Orders
 pub mod Growth
 pub mod Cuttings
 pub mod Sides
+pub mod Certain
 pub mod Tables
+pub mod Dividing
 pub mod Widths
 pub mod Halvings
 pub mod Examples

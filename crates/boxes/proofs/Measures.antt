@@ -5,9 +5,8 @@ use Rattle.std.specs.List.{AllByRecursion}
 use Rattle.std.proofs.lemmas.List.{map_more}
 use Rattle.std.proofs.lemmas.Int.{to_z-of_z, to_z_pos}
 use Rattle.points.specs.Entries.{Entry}
-use Rattle.std.specs.List.Sorted.{IsPermutation}
 use Rattle.numbers.specs.Sums.{summed}
-use Rattle.numbers.proofs.Sums.{summed_append, summed_shuffled}
+use Rattle.numbers.proofs.Sums.{summed_append}
 use Rattle.numbers.proofs.Quote.{solve, quotes}
 use Rattle.numbers.proofs.Ring.{lin, *ℤ-rises, *ℤ-neg}
 use Rattle.grouping.specs.Distance.{Place, dist}
@@ -59,16 +58,12 @@ times_fits h x s l u =
 -- ---- totals
 
 -- a total as a plain sum
-total_is : (f : Place → ℤ) (es : List Entry) → total f es ≡ summed (λ e. pos e.hold *ℤ f e.place) es
+pub total_is : (f : Place → ℤ) (es : List Entry) → total f es ≡ summed (λ e. pos e.hold *ℤ f e.place) es
 total_is f [] = refl
 total_is f (e ∷ es) = ap (λ z. pos e.hold *ℤ f e.place +ℤ z) (total_is f es)
 
 pub total_append : (f : Place → ℤ) (es fs : List Entry) → total f (es ++ fs) ≡ total f es +ℤ total f fs
 total_append f es fs = omega (arith, lin, total_is f (es ++ fs), total_is f es, total_is f fs, summed_append (λ e. pos e.hold *ℤ f e.place) es fs)
-
--- in whatever order
-pub total_shuffled : (f : Place → ℤ) (es fs : List Entry) → IsPermutation es fs → total f es ≡ total f fs
-total_shuffled f es fs s = total_is f es ∙ summed_shuffled (λ e. pos e.hold *ℤ f e.place) es fs s ∙ sym (total_is f fs)
 
 pub total_push : (f : Place → ℤ) (es : List Entry) (e : Entry) → total f (es ++ e ∷ []) ≡ total f es +ℤ pos e.hold *ℤ f e.place
 total_push f es e = omega (arith, lin, total_append f es (e ∷ []))

@@ -1,22 +1,23 @@
 -- The order of the table, as a part of it is put into another order.
-use Rattle.std.proofs.Common.{◌≡◌, ℕ, ◌+◌, ◌-◌, ◌<◌, ◌≤◌, List, [], ◌∷◌, ◌++◌, length, get_or, take, sym, ap, ◌∙◌, subst, ap₂, inl, inr, append_assoc, append-nil, arith}
-use Rattle.std.specs.List.{between, AllByRecursion}
+use Rattle.std.proofs.Common.{◌≡◌, ℕ, ◌+◌, ◌-◌, ◌<◌, ◌≤◌, List, ◌++◌, length, get_or, take, sym, ap, ◌∙◌, subst, ap₂, inl, inr, arith}
+use Rattle.std.specs.List.{between, All}
 use Rattle.std.specs.List.Sorted.{IsPermutation}
 use Rattle.std.proofs.lemmas.List.Edits.{split_between, length-between, get_or-between}
-use Rattle.std.proofs.ByRecursion.{All-from_get_or, has_get_or, has_shuffled}
-use Rattle.std.proofs.lemmas.List.{get_or-take, get_or-drop, take-take}
+use Rattle.std.proofs.ByRecursion.{has_get_or, has_shuffled}
+use Rattle.std.proofs.lemmas.List.{get_or-take, get_or-drop, get_or_default, take-take}
 use Rattle.std.proofs.lemmas.Slice.{between_is, between-put_mid, take-put_mid_below, drop-put_mid}
-use Rattle.std.proofs.lemmas.List.Sorted.{IsPermutation-sym, IsPermutation-cons, IsPermutation-to_front, IsPermutation-trans}
+use Rattle.std.proofs.lemmas.List.Sorted.{IsPermutation-sym, IsPermutation-append_left, IsPermutation-append_right}
 use Rattle.std.proofs.lemmas.Bool.{cases_lt}
 use borrow.Rule.Slice.PartMut.{put_mid, same_len_mid}
 use Rattle.boxes.specs.Runs.{Reordered}
 use Rattle.boxes.specs.Table.{Known}
 use Rattle.boxes.proofs.Sameness.{between_take}
 
-pub run_known : (order : List ℕ) (n from to : ℕ) → Known order n → to ≤ n → n ≤ length order → AllByRecursion (λ i. i < n) (between from to order)
-run_known order n from to k l long =
-    All-from_get_or (λ i. i < n) (between from to order) 0
-    (λ i h. let m : from + i < to = omega (arith, length-between order from to (omega arith)) in subst (λ x. x < n) (sym (get_or-between order from to i 0 m)) (k (from + i) (omega arith)))
+pub run_known : (order : List ℕ) (n from to : ℕ) → Known order n → to ≤ n → n ≤ length order → All (λ i. i < n) (between from to order)
+run_known order n from to k l long j d h =
+    let m' = length-between order from to (omega arith) in
+    let m : from + j < to = omega arith in
+    subst (λ x. x < n) (sym (get_or-between order from to j d m ∙ get_or_default order (from + j) d 0 (omega arith))) (k (from + j) (omega arith))
 
 -- a write to that part
 pub reordered_mid : (order ys : List ℕ) (from to : ℕ) → from ≤ to → to ≤ length order → length ys ≡ length (between from to order) → IsPermutation (between from to order) ys → Reordered order (put_mid from (to - from) order ys) from to
@@ -67,18 +68,6 @@ module _ (order order' : List ℕ) (from to : ℕ) (up : from ≤ to) (end : to 
 
 -- ---- the whole of the order
 
-shuffled_behind : (bs xs ys : List ℕ) → IsPermutation xs ys → IsPermutation (xs ++ bs) (ys ++ bs)
-shuffled_behind [] xs ys s = subst (λ zs. IsPermutation zs (ys ++ [])) (sym (append-nil xs)) (subst (IsPermutation xs) (sym (append-nil ys)) s)
-shuffled_behind (b ∷ bs) xs ys s =
-    let to_front = IsPermutation-to_front xs b in
-    let from_front = IsPermutation-sym (ys ++ b ∷ []) (b ∷ ys) (IsPermutation-to_front ys b) in
-    let one : IsPermutation (xs ++ b ∷ []) (ys ++ b ∷ []) = IsPermutation-trans (xs ++ b ∷ []) (b ∷ xs) (ys ++ b ∷ []) to_front (IsPermutation-trans (b ∷ xs) (b ∷ ys) (ys ++ b ∷ []) (IsPermutation-cons b xs ys s) from_front) in
-    subst (λ zs. IsPermutation zs (ys ++ b ∷ bs)) (append_assoc xs (b ∷ []) bs) (subst (IsPermutation ((xs ++ b ∷ []) ++ bs)) (append_assoc ys (b ∷ []) bs) (shuffled_behind bs (xs ++ b ∷ []) (ys ++ b ∷ []) one))
-
-shuffled_ahead : (as' xs ys : List ℕ) → IsPermutation xs ys → IsPermutation (as' ++ xs) (as' ++ ys)
-shuffled_ahead [] xs ys s = s
-shuffled_ahead (a ∷ as') xs ys s = IsPermutation-cons a (as' ++ xs) (as' ++ ys) (shuffled_ahead as' xs ys s)
-
 -- the first n of the order, in three parts
 thirds : (order : List ℕ) (from to n : ℕ) → from ≤ to → to ≤ n → n ≤ length order → take n order ≡ take from order ++ (between from to order ++ between to n order)
 thirds order from to n up l long =
@@ -89,5 +78,5 @@ pub reordered_all : (order order' : List ℕ) (from to n : ℕ) → from ≤ to 
 reordered_all order order' from to n up l long r =
     let a = sym (thirds order from to n up l long) in
     let b = thirds order' from to n up l (omega (arith, r.long)) ∙ ap₂ (λ xs ys. xs ++ (between from to order' ++ take (n - to) ys)) r.before r.after in
-    let parts = shuffled_ahead (take from order) (between from to order ++ between to n order) (between from to order' ++ between to n order) (shuffled_behind (between to n order) (between from to order) (between from to order') r.shuffled) in
+    let parts = IsPermutation-append_right (take from order) (between from to order ++ between to n order) (between from to order' ++ between to n order) (IsPermutation-append_left (between to n order) (between from to order) (between from to order') r.shuffled) in
     subst (λ zs. IsPermutation zs (take n order')) a (subst (IsPermutation (take from order ++ (between from to order ++ between to n order))) (sym b) parts)

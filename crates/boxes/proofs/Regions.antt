@@ -1,12 +1,12 @@
 -- Which places the boxes have, cut by cut.
-use Rattle.std.proofs.Common.{◌≡◌, ℕ, ◌+◌, ◌-◌, ◌*◌, ◌<◌, ◌≤◌, Bool, true, false, cond, not, ◌&&◌, List, [], ◌∷◌, ◌++◌, length, sym, refl, ap, ◌∙◌, subst, ap₂, inl, inr, append_assoc, append-nil, arith, length-append}
+use Rattle.std.proofs.Common.{◌≡◌, ℕ, ◌+◌, ◌-◌, ◌*◌, ◌<◌, ◌≤◌, Bool, true, false, not, ◌&&◌, List, [], ◌∷◌, ◌++◌, length, sym, refl, ap, ◌∙◌, subst, ap₂, inl, inr, append_assoc, append-nil, arith, length-append}
 use Rattle.std.proofs.lemmas.List.{get_or_append_left, get_or-append_right}
 use Rattle.std.proofs.lemmas.List.Sums.{fold_push}
-use Rattle.std.proofs.lemmas.Bool.{cases_eq, cases_lt, both_ways, and_parts, and_from, cases_Bool, cond_both}
+use Rattle.std.proofs.lemmas.Bool.{cases_eq, cases_lt, both_ways, and_parts, and_from, cases_Bool}
 use Rattle.grouping.specs.Distance.{Place}
 use Rattle.boxes.specs.declared.cut.Cut.{Cut}
 use Rattle.boxes.specs.Laws.{OneSmallest}
-use Rattle.boxes.specs.Regions.{Region, region_at, below, divided, regions, boxes_after, holds, cut_at, Uncut, Logged, Smallest}
+use Rattle.boxes.specs.Regions.{Region, region_at, below, divided, regions, boxes_after, holds, cut_at, Uncut, Logged, Smallest, SplitInto}
 
 -- what holds without cuts, and of one cut more, holds of all lists of cuts
 by_cuts : (P : List Cut → Type 0) → P [] → ((cuts : List Cut) (c : Cut) → P cuts → P (cuts ++ c ∷ [])) → (cuts : List Cut) → P cuts
@@ -270,21 +270,13 @@ pub children_hold : (cuts : List Cut) → Logged cuts → (b i : ℕ) → i < le
 unfolding Parts
 children_hold cuts g b i l e p = let q = parts cuts g i l p in (q.0 ∙ ap (λ d. holds cuts d p && below (cut_at cuts i) p) e, q.1 ∙ ap (λ d. holds cuts d p && not (below (cut_at cuts i) p)) e)
 
--- which of the children of a cut has the place, if the cut box has it
-abbrev pub child : Cut → ℕ → Place → ℕ
-child c i p = cond (below c p) (2 * i + 1) (2 * i + 2)
+-- a place of a cut box lies in the child on its side
+module _ (cuts : List Cut) (g : Logged cuts) (b : ℕ) (c : Cut) (first second : ℕ) (s : SplitInto cuts b c first second) (p : Place) (h : holds cuts b p ≡ true) where
+  pub in_first : below c p ≡ true → holds cuts first p ≡ true
+  in_first t = ap (λ d. holds cuts d p) s.first_is ∙ (children_hold cuts g b s.number s.made s.of p).0 ∙ and_from _ _ h (ap (λ d. below d p) (sym s.is) ∙ t)
 
-pub holds_child : (cuts : List Cut) → Logged cuts → (b i : ℕ) → i < length cuts → (cut_at cuts i).parent ≡ b → (p : Place) → holds cuts b p ≡ true → holds cuts (child (cut_at cuts i) i p) p ≡ true
-unfolding Parts
-holds_child cuts g b i l e p h =
-    let q = parts cuts g i l p in
-    let has : holds cuts (cut_at cuts i).parent p ≡ true = ap (λ d. holds cuts d p) e ∙ h in
-    cond_both (below (cut_at cuts i) p) (2 * i + 1) (2 * i + 2) (λ d. holds cuts d p ≡ true)
-    (λ t. q.0 ∙ and_from _ _ has t) (λ f. q.1 ∙ and_from _ _ has (ap not f))
-
--- both come after the first i cuts, and before the next
-pub child_range : (c : Cut) (i : ℕ) (p : Place) → (2 * i + 1 ≤ child c i p) × (child c i p ≤ 2 * i + 2)
-child_range c i p = cond_both (below c p) (2 * i + 1) (2 * i + 2) (λ d. (2 * i + 1 ≤ d) × (d ≤ 2 * i + 2)) (λ e. (omega arith, omega arith)) (λ e. (omega arith, omega arith))
+  pub in_second : below c p ≡ false → holds cuts second p ≡ true
+  in_second f = ap (λ d. holds cuts d p) s.second_is ∙ (children_hold cuts g b s.number s.made s.of p).1 ∙ and_from _ _ h (ap not (ap (λ d. below d p) (sym s.is) ∙ f))
 
 -- ---- a place has a smallest box
 

@@ -4,7 +4,7 @@ use Rattle.std.specs.List.{range_with_len, ContainsAt as Has, between, AllByRecu
 use Rattle.std.specs.List.Sorted.{IsPermutation}
 use Rattle.std.proofs.lemmas.List.FromFn.{fill_by_all, get_or-range_with_len, length-range_with_len}
 use Rattle.std.proofs.lemmas.List.Edits.{split_between, length-between, get_or-between}
-use Rattle.std.proofs.ByRecursion.{All-from_get_or, all-has, all_has_itself, All-weaker, All-map, all_kept_by, kept_by_passes, has_get_or, has_append_right, has_shuffled}
+use Rattle.std.proofs.ByRecursion.{All-from_get_or, all-has, All-weaker, All-map, all_kept_by, kept_by_passes, has_get_or, has_append_right, has_shuffled}
 use Rattle.std.proofs.lemmas.List.{get_or-take, get_or-drop, get_or-map, length-map, length-take-le, length-drop, ext_get_or}
 use Rattle.std.proofs.lemmas.List.Sorted.{IsPermutation-sym}
 use Rattle.std.proofs.lemmas.Bool.{lt-ltb, le-ltb, le-leb, ltb-true, leb-true, and_parts, and_from, and_right, lt-leb, both_ways}
@@ -20,15 +20,13 @@ use Rattle.boxes.specs.declared.node.Tallies.{Tallies}
 use Rattle.boxes.specs.declared.run.Quantity.TheVariants.{Weight, Sum, Squares}
 use Rattle.boxes.specs.Runs.{nothing, entry_at, picked}
 use Rattle.boxes.specs.Tells.{measured, numbers_on, BoundsOf, TalliesOf}
+use Rattle.boxes.proofs.Measures.{total_is}
 
 -- the same elements, each as often: every sum over them is the same
 pub record Same {X : Type 0} (xs ys : List X) : Type 0 where
   pub sums : (f : X → ℤ) → summed f xs ≡ summed f ys
   pub there : AllByRecursion (Has ys) xs
   pub back : AllByRecursion (Has xs) ys
-
-pub same_refl : {X : Type 0} (xs : List X) → Same xs xs
-same_refl xs = record { sums = λ f. refl; there = all_has_itself xs; back = all_has_itself xs }
 
 -- what holds of each of the ones holds of each of the others
 pub all_same : {X : Type 0} (P : X → Type 0) (xs ys : List X) → Same xs ys → AllByRecursion P ys → AllByRecursion P xs
@@ -63,11 +61,7 @@ summed_no t f [] a = refl
 summed_no t f (x ∷ xs) a = rw (a.0, summed_no t f xs a.1) (omega (arith, lin))
 
 pub total_same : (f : Place → ℤ) (es fs : List Entry) → Same es fs → total f es ≡ total f fs
-total_same f es fs s = as_sum es ∙ s.sums (λ e. pos e.hold *ℤ f e.place) ∙ sym (as_sum fs)
-  where
-    as_sum : (es : List Entry) → total f es ≡ summed (λ e. pos e.hold *ℤ f e.place) es
-    as_sum [] = refl
-    as_sum (e ∷ es) = ap (λ z. pos e.hold *ℤ f e.place +ℤ z) (as_sum es)
+total_same f es fs s = total_is f es ∙ s.sums (λ e. pos e.hold *ℤ f e.place) ∙ sym (total_is f fs)
 
 pub has_map : {X Y : Type 0} (g : X → Y) (xs : List X) (x : X) → Has xs x → Has (map g xs) (g x)
 has_map g xs x (k, l, e) = (k, omega (arith, length-map xs g), λ d. get_or-map g xs k x d l ∙ ap g (e x))

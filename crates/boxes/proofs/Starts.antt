@@ -1,9 +1,8 @@
 -- The table before the first cut.
 use Rattle.std.proofs.Common.{◌≡◌, ℕ, ◌<◌, ◌≤◌, ◌&&◌, ltb, leb, List, [], ◌∷◌, length, get_or, take, Some, None, sym, refl, ap, ◌∙◌, subst, arith}
-use Rattle.std.specs.List.{range_with_len, AllByRecursion}
+use Rattle.std.specs.List.{range_with_len}
 use Rattle.std.specs.List.Sorted.{IsPermutation}
 use Rattle.std.proofs.lemmas.List.FromFn.{get_or-range_with_len, length-range_with_len}
-use Rattle.std.proofs.ByRecursion.{All-from_get_or}
 use Rattle.std.proofs.lemmas.List.{get_or-take, length-take-le, ext_get_or}
 use Rattle.std.proofs.lemmas.List.Sorted.{IsPermutation-refl}
 use Rattle.std.proofs.lemmas.Bool.{lt-ltb, le-leb, and_from}
@@ -11,7 +10,7 @@ use Rattle.points.specs.Entries.{Entry}
 use Rattle.boxes.specs.declared.node.BoxNode.{BoxNode}
 use Rattle.boxes.specs.Regions.{holds, contents}
 use Rattle.boxes.specs.Runs.{entry_at, picked}
-use Rattle.boxes.specs.Standing.{Agrees}
+use Rattle.boxes.specs.Agreement.{Agrees}
 use Rattle.boxes.specs.Table.{node_at}
 use Rattle.boxes.specs.Tells.{BoundsOf, TalliesOf}
 use Rattle.boxes.proofs.Regions.{holds_root}
@@ -28,9 +27,6 @@ module _ (order : List ℕ) (long : length order ≡ 4096) (each : (k : ℕ) →
       let l : length (take n order) ≡ n = length-take-le n order (omega arith) in
       ext_get_or 0 (take n order) (range_with_len 0 n) (l ∙ sym (length-range_with_len 0 n))
       (λ i h. let k : i < n = omega arith in omega (arith, get_or-take n order i 0 k, each i (omega arith), get_or-range_with_len 0 n i 0 k))
-
-  pub in_order_known : AllByRecursion (λ i. i < n) (take n order)
-  in_order_known = subst (AllByRecursion (λ i. i < n)) (sym in_order) (All-from_get_or (λ i. i < n) (range_with_len 0 n) 0 (λ i h. let l : i < n = omega (arith, length-range_with_len 0 n) in omega (arith, get_or-range_with_len 0 n i 0 l)))
 
 -- the table with one box
 module _ (es : List Entry) (ns : List BoxNode) (order : List ℕ) (root : BoxNode) (is : node_at ns 0 ≡ root) (numbers : take (length es) order ≡ range_with_len 0 (length es))

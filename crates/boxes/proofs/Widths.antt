@@ -10,9 +10,6 @@ use Rattle.points.specs.Told.{told_ranged}
 use Rattle.grouping.specs.Distance.{number}
 use Rattle.boxes.specs.Widths.{natural, apart}
 
-natural_of : (z : ℤ) (n : ℕ) → z ≡ pos n → natural z ≡ n
-natural_of z n e = ap natural e
-
 natural_none : (z : ℤ) → z ≤ℤ pos 0 → natural z ≡ 0
 natural_none (pos n) l = omega (arith, ints, l)
 natural_none (negsuc n) l = refl

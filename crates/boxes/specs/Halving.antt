@@ -49,17 +49,11 @@ Rests axes es cuts = (length cuts ≡ 127) ⊎ ((b : ℕ) → Halvable axes es c
 
 -- ---- the steps of halving
 
--- n is the number of entries of box b if it can be halved, and 0 if it cannot
-pub record Rated (axes : ℕ) (es : List Entry) (cuts : List Cut) (b n : ℕ) : Type 0 where
-  pub can : 0 < n → Halvable axes es cuts b
-  pub counts : 0 < n → n ≡ length (contents cuts b es)
-  pub cannot : n ≡ 0 → Halvable axes es cuts b → ⊥
-
--- of the boxes below i, b is the first of the largest, with n entries, if one can be halved
-pub record LargestBelow (axes : ℕ) (es : List Entry) (cuts : List Cut) (i b n : ℕ) : Type 0 where
-  pub rated : Rated axes es cuts b n
-  pub most : (d : ℕ) → d < i → Halvable axes es cuts d → length (contents cuts d es) ≤ n
-  pub first : (d : ℕ) → d < b → Halvable axes es cuts d → length (contents cuts d es) < n
+-- of the boxes below i, b is the largest that can be halved, and the first of those
+pub record LargestBelow (axes : ℕ) (es : List Entry) (cuts : List Cut) (i b : ℕ) : Type 0 where
+  pub halvable : Halvable axes es cuts b
+  pub most : (d : ℕ) → d < i → Halvable axes es cuts d → length (contents cuts d es) ≤ length (contents cuts b es)
+  pub first : (d : ℕ) → d < b → Halvable axes es cuts d → length (contents cuts d es) < length (contents cuts b es)
 
 -- the next halving was done, or none is left
 abbrev pub Stepped : ℕ → List Entry → List Cut → Bool → List Cut → Type 0

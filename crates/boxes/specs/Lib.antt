@@ -1,7 +1,9 @@
 pub mod Regions
 pub mod Runs
+pub mod Taken
 pub mod Tells
 pub mod Table
+pub mod Agreement
 pub mod Standing
 pub mod Faults
 pub mod Laws

@@ -58,3 +58,13 @@ pub record Smallest (cuts : List Cut) (p : Place) (b : ℕ) : Type 0 where
   pub there : b < boxes_after cuts
   pub uncut : Uncut cuts b
   pub has : holds cuts b p ≡ true
+
+-- c is a cut of box b, and made the boxes first and second
+pub record SplitInto (cuts : List Cut) (b : ℕ) (c : Cut) (first second : ℕ) : Type 0 where
+  pub number : ℕ
+  pub made : number < length cuts
+  pub is : c ≡ cut_at cuts number
+  pub of : (cut_at cuts number).parent ≡ b
+  pub first_is : first ≡ 2 * number + 1
+  pub second_is : second ≡ 2 * number + 2
+  pub above : b < first

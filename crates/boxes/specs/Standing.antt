@@ -1,41 +1,27 @@
--- What ties a table to its recording: which boxes its cuts give, and what these tell.
-use Rattle.std.specs.Prelude.{◌≡◌, ℕ, ◌<◌, Bool, ◌&&◌, List, length, take, Some, None, nat_le, nat_lt, slice_index}
-use Rattle.std.specs.List.{range_with_len}
-use Rattle.std.specs.List.Sorted.{IsPermutation}
+-- What ties a table to its recording.
+use Rattle.std.specs.Prelude.{ℕ, List, take}
+use Rattle.std.specs.List.{between}
 use Rattle.points.specs.declared.point.Point.{Ghosts as PointGhosts}
 use Rattle.points.specs.declared.record.Record.{Ghosts as RecordGhosts}
 use Rattle.points.specs.Entries.{Entry, recorded}
 use Rattle.boxes.specs.declared.cut.Cut.{Cut}
-use Rattle.boxes.specs.declared.node.BoxNode.{BoxNode}
 use Rattle.boxes.specs.declared.table.BoxTable.{BoxTable}
-use Rattle.boxes.specs.Regions.{boxes_after, holds, contents, cut_at, Uncut, Logged}
-use Rattle.boxes.specs.Runs.{entry_at}
+use Rattle.boxes.specs.Agreement.{Agrees}
 use Rattle.boxes.specs.Table.{node_at}
-use Rattle.boxes.specs.Tells.{BoundsOf, TalliesOf}
 
--- the cuts of the table, in the order in which they were made
-abbrev pub cuts_of : {R : Type 0} → BoxTable R → List Cut
-cuts_of t = take t.count t.cuts
+module _ {R : Type 0} {kindP : PointGhosts R} {kindR : RecordGhosts R} where
+  -- the cuts of the table, in the order in which they were made
+  abbrev pub cuts_of : BoxTable R kindR kindP → List Cut
+  cuts_of t = take t.count t.cuts
 
--- place j of the order is in the run of the box
-abbrev pub in_run : BoxNode → ℕ → Bool
-in_run n j = nat_le n.from j && nat_lt j n.to
-
--- the boxes, as these arrays have them, are those that the cuts give over the entries
-pub record Agrees (es : List Entry) (cuts : List Cut) (ns : List BoxNode) (order : List ℕ) : Type 0 where
-  pub log : Logged cuts
-  pub cut_by : (b i : ℕ) → b < boxes_after cuts → (node_at ns b).cut ≡ Some i → (cut_at cuts i).parent ≡ b
-  pub uncut : (b : ℕ) → b < boxes_after cuts → (node_at ns b).cut ≡ None → Uncut cuts b
-  pub all_there : IsPermutation (range_with_len 0 (length es)) (take (length es) order)
-  pub located : (b j : ℕ) → b < boxes_after cuts → j < length es → holds cuts b (entry_at es (slice_index order j)).place ≡ in_run (node_at ns b) j
-  pub bounds : (b : ℕ) → b < boxes_after cuts → BoundsOf (contents cuts b es) (node_at ns b).bounds
-  pub tallies : (b : ℕ) → b < boxes_after cuts → TalliesOf (contents cuts b es) (node_at ns b).tallies
-
-module _ {R : Type 0} (kindP : PointGhosts R) (kindR : RecordGhosts R) where
   -- the entries of the table's recording
-  abbrev pub entries_of : BoxTable R → List Entry
+  abbrev pub entries_of : BoxTable R kindR kindP → List Entry
   entries_of t = recorded kindP kindR t.recording
 
-  -- the table is in order. Nothing but the functions of this crate can make or change a table; making one ensures this, and every change keeps it
-  abbrev pub Stands : BoxTable R → Type 0
+  -- the numbers of the records of box b, as the table keeps them
+  abbrev pub run_of : BoxTable R kindR kindP → ℕ → List ℕ
+  run_of t b = between (node_at t.nodes b).from (node_at t.nodes b).to t.order
+
+  -- the table is in order, as every table is: its type keeps that
+  abbrev pub Stands : BoxTable R kindR kindP → Type 0
   Stands t = Agrees (entries_of t) (cuts_of t) t.nodes t.order

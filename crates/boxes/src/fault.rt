@@ -5,25 +5,20 @@ ghost use Rattle.boxes.specs.Faults.{number_of};
 #[derive(Clone, Copy, Debug, PartialEq, Eq)]
 pub enum CutFault {
     // There is no such box, or it is cut.
-    NoUncutBox,
+    NoUncutBox = 4,
     // The records have no such axis.
-    NoAxis,
+    NoAxis = 5,
     // All boxes are there.
-    Full,
+    Full = 6,
     // One side would have no record.
-    OneSided,
+    OneSided = 7,
 }
 
 impl CutFault {
-    // The number under which the fault is reported.
+    // The number under which the fault is reported. No trait over the faults: each would write its own body.
     pub fn number(&self) -> u32
         ensures { result ≡ number_of self.now }
     {
-        match self {
-            CutFault::NoUncutBox => 4,
-            CutFault::NoAxis => 5,
-            CutFault::Full => 6,
-            CutFault::OneSided => 7,
-        }
+        *self as u32
     }
 }

@@ -2,6 +2,7 @@
 #![tactic(auto)]
 
 pub mod access;
+pub mod at;
 pub mod cut;
 pub mod cutting;
 pub mod fault;

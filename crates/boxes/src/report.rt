@@ -29,7 +29,7 @@ const NO_BOX: u32 = 10;
 pub struct NoBox;
 
 impl NoBox {
-    // The number under which it is reported.
+    // The number under which it is reported. No trait over the faults: each would write its own body.
     pub fn number(&self) -> u32
         ensures { result ≡ 10 }
     {

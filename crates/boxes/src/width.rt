@@ -26,13 +26,10 @@ pub(crate) fn widest_axis(bounds: &Bounds, axes: usize) -> usize
     requires { 0 < axes }
     ensures { WidestOf bounds.now axes result }
 {
-    let mut widest = 0;
-    for a in 1..axes {
-        if width_at(bounds, a) > width_at(bounds, widest) {
-            widest = a;
-        }
-    }
-    widest
+    // the first of the least: `max_by_key` would keep the last of several
+    (0..axes)
+        .min_by_key(|a| -(width_at(bounds, *a) as i64))
+        .unwrap()
 }
 
 // The middle of the bounds on an axis on which they have a width: half of it above the least number, and 1 more. Where they have none, 1

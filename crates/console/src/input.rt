@@ -21,7 +21,7 @@ pub struct Input {
     ghost fits: { (n : ℕ) → count ≡ Some n → n ≤ 65537 },
 }
 
-// Reads until the buffer is full or the file ends, and answers how many bytes came.
+// Reads until the buffer is full or the file ends, and answers how many bytes came. By hand, since the buffer is fixed: there is no heap.
 fn fill(file: &mut File, buffer: &mut [u8]) -> io::Result<usize>
     ensures { IfOk result (λ n. n ≤ length buffer.new) }
 {
@@ -40,13 +40,8 @@ fn fill(file: &mut File, buffer: &mut [u8]) -> io::Result<usize>
 fn read(rt: &HostRuntime, path: &str, buffer: &mut [u8]) -> Option<usize>
     ensures { IfSome result (λ n. n ≤ length buffer.new) }
 {
-    let Ok(mut file) = fs::open(rt, path) else {
-        return None;
-    };
-    let Ok(n) = fill(&mut file, buffer) else {
-        return None;
-    };
-    Some(n)
+    let mut file = fs::open(rt, path).ok()?;
+    fill(&mut file, buffer).ok()
 }
 
 impl Input {
@@ -61,9 +56,6 @@ impl Input {
     pub fn bytes(&self) -> Option<&[u8]>
         ensures { MatchOption result (self.now.count ≡ None) (λ bytes. MatchOption self.now.count ⊥ (λ n. bytes.now ≡ take n self.now.buffer)) }
     {
-        match self.count {
-            Some(n) => Some(&self.buffer[0..n]),
-            None => None,
-        }
+        self.count.map(|n| &self.buffer[..n])
     }
 }

@@ -4,20 +4,16 @@ use program::report::Report;
 use std::io;
 
 fn print_report(rt: &HostRuntime, report: &Report) -> io::Result<()> {
-    let heading = report.heading();
-    println!(rt; "{heading}")?;
-    for k in 0..report.count() {
-        if let Some(line) = report.line(k) {
-            println!(rt; "{line}")?;
-        }
+    println!(rt; "{}", report.heading())?;
+    for line in (0..report.count()).filter_map(|k| report.line(k)) {
+        println!(rt; "{line}")?;
     }
     Ok(())
 }
 
 fn print_fault(rt: &HostRuntime, fault: &ProgramFault) -> io::Result<()> {
-    let report = fault.report();
     println!(rt; "refused,file,line,column")?;
-    println!(rt; "{report}")
+    println!(rt; "{}", fault.report())
 }
 
 // Prints what the program answers. A fault is an error of the program too, once it is printed.

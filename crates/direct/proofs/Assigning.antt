@@ -73,23 +73,23 @@ module _ {R : Type 0} (kindP : PointGhosts R) (kindR : RecordGhosts R)
     (ranged : (p : R) (k : ℕ) → (negsuc 32767 ≤ℤ get_or (kindP.place p) k (pos 0)) × (get_or (kindP.place p) k (pos 0) ≤ℤ pos 32767))
     (held : (r : R) → (1 ≤ kindR.hold r) × (kindR.hold r ≤ 65535))
     (rs : List R) (i : ℕ) (r : R) (l : i < length rs) (is : r ≡ get_or rs i r) (old gs : List Group) (many : length gs ≡ length old)
-    (t : Tallied (entries kindP kindR (take i rs)) (places kindP.axes old) gs) where
-  wide : length (places kindP.axes old) ≡ length gs
-  wide = length-map old (λ g. place_of kindP.axes g.center) ∙ sym many
+    (t : Tallied (entries kindP kindR (take i rs)) (places kindP.AXES old) gs) where
+  wide : length (places kindP.AXES old) ≡ length gs
+  wide = length-map old (λ g. place_of kindP.AXES g.center) ∙ sym many
 
   -- a record finds room in every group
   pub record_room : length rs ≤ 4096 → (k : ℕ) → k < length gs → Room (group_at gs k)
   record_room few k h =
-      room (entries kindP kindR (take i rs)) (places kindP.axes old) gs k (modest_entries kindP kindR ranged held (take i rs)) (omega (arith, length-map (take i rs) (λ x. entry kindP kindR x), length-take-le i rs (omega arith))) (omega (arith, wide)) t
+      room (entries kindP kindR (take i rs)) (places kindP.AXES old) gs k (modest_entries kindP kindR ranged held (take i rs)) (omega (arith, length-map (take i rs) (λ x. entry kindP kindR x), length-take-le i rs (omega arith))) (omega (arith, wide)) t
 
   -- and joins that of its nearest center
-  pub record_joins : centers gs ≡ centers old → (k : ℕ) (h : Group) (hs : List Group) → k < length gs → k ≡ choose (places kindP.axes gs) (kindP.place r) → Added (group_at gs k) (kindP.place r) (kindR.hold r) h → hs ≡ set gs k h →
-      Tallied (entries kindP kindR (take (i + 1) rs)) (places kindP.axes old) hs × (centers hs ≡ centers old)
+  pub record_joins : centers gs ≡ centers old → (k : ℕ) (h : Group) (hs : List Group) → k < length gs → k ≡ choose (places kindP.AXES gs) (kindP.place r) → Added (group_at gs k) (kindP.place r) (kindR.hold r) h → hs ≡ set gs k h →
+      Tallied (entries kindP kindR (take (i + 1) rs)) (places kindP.AXES old) hs × (centers hs ≡ centers old)
   record_joins e k h hs lk i' ad eh = (
-    rw (eh, map_more (λ x. entry kindP kindR x) rs i r l, sym is) (tallied_more (entries kindP kindR (take i rs)) (entry kindP kindR r) (places kindP.axes old) gs k h (i' ∙ ap (λ cs. choose cs (kindP.place r)) (places_same kindP.axes gs old e)) lk ad t),
+    rw (eh, map_more (λ x. entry kindP kindR x) rs i r l, sym is) (tallied_more (entries kindP kindR (take i rs)) (entry kindP kindR r) (places kindP.AXES old) gs k h (i' ∙ ap (λ cs. choose cs (kindP.place r)) (places_same kindP.AXES gs old e)) lk ad t),
     ap centers eh ∙ centers_set gs k h ad.center ∙ e,
   )
 
   -- with no center there is nothing to tell
-  pub record_none : centers gs ≡ centers old → (hs : List Group) → length gs ≡ 0 → hs ≡ gs → Tallied (entries kindP kindR (take (i + 1) rs)) (places kindP.axes old) hs × (centers hs ≡ centers old)
+  pub record_none : centers gs ≡ centers old → (hs : List Group) → length gs ≡ 0 → hs ≡ gs → Tallied (entries kindP kindR (take (i + 1) rs)) (places kindP.AXES old) hs × (centers hs ≡ centers old)
   record_none e hs z eh = (record { weighs = λ k lk. absurd (omega (arith, wide)); sums = λ k axis lk la. absurd (omega (arith, wide)) }, ap centers eh ∙ e)

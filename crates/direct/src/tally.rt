@@ -8,6 +8,7 @@ use grouping::group::Group;
 use grouping::nearest::nearest;
 use points::record::Record;
 use points::recording::Recording;
+use std::array;
 
 // How much a record adds to a sum: its number on axis a as often as it is held.
 fn moment<R: Record>(r: &R, a: usize) -> i64
@@ -23,14 +24,10 @@ fn with_record<R: Record>(group: &Group, r: &R) -> Group
     requires { Room group.now }
     ensures { Added group.now (R.Point.place r.now) (R.Record.hold r.now) result }
 {
-    let mut sums = group.sums;
-    for a in 0..4 {
-        sums[a] += moment(r, a);
-    }
     Group {
-        center: group.center,
         weight: group.weight + r.hold() as u32,
-        sums,
+        sums: array::from_fn(|a| group.sums[a] + moment(r, a)),
+        ..*group
     }
 }
 
@@ -39,23 +36,19 @@ fn clear(groups: &mut [Group])
     ensures clear { Clear groups.new }
     ensures centers { centers groups.new ≡ centers groups.old }
 {
-    for k in 0..groups.len() {
-        groups[k] = Group {
-            center: groups[k].center,
-            weight: 0,
-            sums: [0; 4],
-        };
+    for group in groups {
+        group.weight = 0;
+        group.sums = [0; 4];
     }
 }
 
 // Puts every record into the group of its nearest center.
 fn assign<R: Record>(recording: &Recording<R>, groups: &mut [Group])
     requires { Clear groups.old }
-    ensures tallied { Tallied (recorded R.Point R.Record.own recording.now) (places R.Point.axes groups.old) groups.new }
+    ensures tallied { Tallied (recorded R.Point R.Record.own recording.now) (places R.Point.AXES groups.old) groups.new }
     ensures centers { centers groups.new ≡ centers groups.old }
 {
-    let records = recording.records();
-    for r in records {
+    for r in recording.records() {
         if let Some(k) = nearest(r, groups) {
             groups[k] = with_record(&groups[k], r);
         }
@@ -63,8 +56,9 @@ fn assign<R: Record>(recording: &Recording<R>, groups: &mut [Group])
 }
 
 // Every group's weight and sums become those of the records that its center is the nearest of.
+// Two parameters, here and in the other functions of this crate: the recording is read, the groups are written, and no fact ties them.
 pub fn tally<R: Record>(recording: &Recording<R>, groups: &mut [Group])
-    ensures tallied { Tallied (recorded R.Point R.Record.own recording.now) (places R.Point.axes groups.old) groups.new }
+    ensures tallied { Tallied (recorded R.Point R.Record.own recording.now) (places R.Point.AXES groups.old) groups.new }
     ensures centers { centers groups.new ≡ centers groups.old }
 {
     clear(groups);

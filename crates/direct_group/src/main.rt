@@ -1,4 +1,4 @@
-// Prints what `group` prints, by the direct method: every record is compared with every center.
+// Prints what `group` prints, by the direct method: every record is compared with every center. It stays the direct one whatever `group` does.
 #![tactic(auto)]
 
 use console::input::{CENTERS, Input, RECORDING};

@@ -43,5 +43,5 @@ column_of NoRecord = 0
 column_of NoCenter = 0
 
 -- the fault of a row in its line
-abbrev pub row_at : Placed RowFault → FileFault
+abbrev pub row_at : Placed ℕ RowFault → FileFault
 row_at e = Row e.place e.fault

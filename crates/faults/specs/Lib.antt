@@ -1,3 +1,4 @@
 pub mod FileFaults
+pub mod InputFiles
 pub mod ProgramFaults
 pub mod RowFaults

@@ -25,5 +25,5 @@ column_of Count = 0
 column_of (Value column fault) = column
 
 -- the fault of a value in its column
-abbrev pub value_at : Placed ValueFault → RowFault
+abbrev pub value_at : Placed ℕ ValueFault → RowFault
 value_at e = Value e.place e.fault

@@ -22,10 +22,10 @@ pub enum FileFault {
     NoCenter,
 }
 
-impl From<Placed<RowFault>> for FileFault {
+impl From<Placed<usize, RowFault>> for FileFault {
     ghost from_gives = { λ e r. r ≡ row_at e };
 
-    fn from(e: Placed<RowFault>) -> FileFault {
+    fn from(e: Placed<usize, RowFault>) -> FileFault {
         FileFault::Row {
             line: e.place,
             fault: e.fault,
@@ -34,10 +34,11 @@ impl From<Placed<RowFault>> for FileFault {
 }
 
 impl FileFault {
-    // The number under which the fault is reported.
+    // The number under which the fault is reported. No trait over the faults: each would write its own body.
     pub fn number(&self) -> u32
         ensures { result ≡ number_of self.now }
     {
+        // No discriminants: a variant that keeps the fault below has the number of that.
         match self {
             FileFault::Names => 21,
             FileFault::Row { fault, .. } => fault.number(),
@@ -64,9 +65,9 @@ impl FileFault {
     {
         match self {
             FileFault::Names => 1,
-            FileFault::Row { line, .. } => *line,
-            FileFault::TooManyRows { line } => *line,
-            FileFault::TooManyCenters { line } => *line,
+            FileFault::Row { line, .. }
+            | FileFault::TooManyRows { line }
+            | FileFault::TooManyCenters { line } => *line,
             FileFault::NoRecord | FileFault::NoCenter => 0,
         }
     }

@@ -2,5 +2,6 @@
 #![tactic(auto)]
 
 pub mod file;
+pub mod input_file;
 pub mod program;
 pub mod row;

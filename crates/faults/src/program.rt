@@ -1,26 +1,27 @@
 ghost use Rattle.std.specs.Prelude.{◌≡◌, Some};
-ghost use Rattle.faults.specs.ProgramFaults.{fault_text, file_at, report_of};
+ghost use Rattle.faults.specs.ProgramFaults.{fault_text, file_at, report_of, unread};
 
 use crate::file::FileFault;
+use crate::input_file::InputFile;
 use std::fmt;
 use value::fault::Layer;
 use value::placed::Placed;
 
-// What can be wrong with the files of the program: 1 is the recording, 2 the centers.
+// What can be wrong with the files of the program.
 #[derive(Clone, Copy)]
 pub enum ProgramFault {
     // The file cannot be opened, or not be read to its end.
-    CannotOpen { file: usize },
+    CannotOpen { file: InputFile },
     // The file is longer than 65,536 bytes.
-    TooLong { file: usize },
+    TooLong { file: InputFile },
     // The file is wrong.
-    File { file: usize, fault: FileFault },
+    File { file: InputFile, fault: FileFault },
 }
 
-impl From<Placed<FileFault>> for ProgramFault {
+impl From<Placed<InputFile, FileFault>> for ProgramFault {
     ghost from_gives = { λ e r. r ≡ file_at e };
 
-    fn from(e: Placed<FileFault>) -> ProgramFault {
+    fn from(e: Placed<InputFile, FileFault>) -> ProgramFault {
         ProgramFault::File {
             file: e.place,
             fault: e.fault,
@@ -28,14 +29,30 @@ impl From<Placed<FileFault>> for ProgramFault {
     }
 }
 
-// All that is told of a fault. A line or a column of 0 stands for the whole.
+// All that is told of a fault. A line or a column of 0 stands for the whole, as it is printed.
 #[derive(Clone, Copy)]
 pub struct FaultReport {
     pub number: u32,
     pub layer: Layer,
+    // A number, as it is printed.
     pub file: usize,
     pub line: usize,
     pub column: usize,
+}
+
+impl FaultReport {
+    // What is told of a file that is not read, under this number.
+    fn unread(number: u32, file: InputFile) -> FaultReport
+        ensures { result ≡ unread number file }
+    {
+        FaultReport {
+            number,
+            layer: Layer::Program,
+            file: file.number(),
+            line: 0,
+            column: 0,
+        }
+    }
 }
 
 impl ProgramFault {
@@ -44,24 +61,12 @@ impl ProgramFault {
         ensures { result ≡ report_of self.now }
     {
         match self {
-            ProgramFault::CannotOpen { file } => FaultReport {
-                number: 27,
-                layer: Layer::Program,
-                file: *file,
-                line: 0,
-                column: 0,
-            },
-            ProgramFault::TooLong { file } => FaultReport {
-                number: 26,
-                layer: Layer::Program,
-                file: *file,
-                line: 0,
-                column: 0,
-            },
+            ProgramFault::CannotOpen { file } => FaultReport::unread(27, *file),
+            ProgramFault::TooLong { file } => FaultReport::unread(26, *file),
             ProgramFault::File { file, fault } => FaultReport {
                 number: fault.number(),
                 layer: fault.layer(),
-                file: *file,
+                file: file.number(),
                 line: fault.line(),
                 column: fault.column(),
             },
@@ -73,10 +78,10 @@ impl fmt::Display for FaultReport {
     ghost output = { λ r. Some (fault_text r) };
 
     fn fmt<W: fmt::Write>(&self, f: &mut fmt::Formatter<W>) -> fmt::Result {
-        let number = self.number;
-        let file = self.file;
-        let line = self.line;
-        let column = self.column;
-        write!(f, "{number},{file},{line},{column}")
+        write!(
+            f,
+            "{},{},{},{}",
+            self.number, self.file, self.line, self.column
+        )
     }
 }

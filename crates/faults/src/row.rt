@@ -15,10 +15,10 @@ pub enum RowFault {
     Value { column: usize, fault: ValueFault },
 }
 
-impl From<Placed<ValueFault>> for RowFault {
+impl From<Placed<usize, ValueFault>> for RowFault {
     ghost from_gives = { λ e r. r ≡ value_at e };
 
-    fn from(e: Placed<ValueFault>) -> RowFault {
+    fn from(e: Placed<usize, ValueFault>) -> RowFault {
         RowFault::Value {
             column: e.place,
             fault: e.fault,
@@ -27,10 +27,11 @@ impl From<Placed<ValueFault>> for RowFault {
 }
 
 impl RowFault {
-    // The number under which the fault is reported.
+    // The number under which the fault is reported. No trait over the faults: each would write its own body.
     pub fn number(&self) -> u32
         ensures { result ≡ number_of self.now }
     {
+        // No discriminants: a variant that keeps the fault below has the number of that.
         match self {
             RowFault::Unended => 25,
             RowFault::Count => 22,

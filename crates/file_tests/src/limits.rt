@@ -6,9 +6,7 @@ use std::test::Fail;
 // A first line, and then a number of times the same row.
 fn repeated(heap: Global, first: &str, row: &str, n: usize) -> Result<String, AllocError> {
     let mut text = String::from_str(heap, first)?;
-    for _ in 0..n {
-        text.push_str(row)?;
-    }
+    text.push_str(&row.repeat(heap, n)?)?;
     Ok(text)
 }
 
@@ -93,6 +91,7 @@ fn most_rows(rt: HostRuntime) -> Result<(), Fail> {
 // The report of one record around so many centers at one position, of which the first has the record.
 fn one_grouped(heap: Global, n: usize) -> Result<String, AllocError> {
     let mut text = String::from_str(heap, "group,weight,gap,length\n0,1,100,10\n")?;
+    // by its number, which is printed
     for k in 1..n {
         text.push_str(&format!(in heap; "{k},0,7,8\n")?)?;
     }

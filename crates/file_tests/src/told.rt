@@ -16,12 +16,9 @@ pub(crate) const DRIVE_CENTERS: &str = "lag,torque,speed,temp\n1,2,3,4\n";
 
 // The lines that are printed of a report, each with its end.
 fn told_of_report(heap: Global, report: &Report) -> Result<String, AllocError> {
-    let heading = report.heading();
-    let mut text = format!(in heap; "{heading}\n")?;
-    for k in 0..report.count() {
-        if let Some(line) = report.line(k) {
-            text.push_str(&format!(in heap; "{line}\n")?)?;
-        }
+    let mut text = format!(in heap; "{}\n", report.heading())?;
+    for line in (0..report.count()).filter_map(|k| report.line(k)) {
+        text.push_str(&format!(in heap; "{line}\n")?)?;
     }
     Ok(text)
 }

@@ -1,13 +1,12 @@
 -- The line of names at the front of a file.
-use Rattle.std.proofs.Common.{◌≡◌, ℕ, List, [], ◌∷◌, ◌++◌, length, is_some, IfSome, Some, None, Decides, Option, sym, refl, ap, ◌∙◌, subst, append_assoc, arith}
+use Rattle.std.proofs.Common.{◌≡◌, ℕ, List, [], ◌∷◌, ◌++◌, is_some, true, is_ok, Some, None, Ok, Err, Result, Decides, Option, sym, refl, ap, ◌∙◌, subst, append_assoc, arith}
 use borrow.Author.Tests.{clash}
 use Rattle.std.proofs.lemmas.List.{length-map}
 use Rattle.reader.specs.declared.cursor.Reader.{Reader}
-use Rattle.reader.specs.declared.lines.NextLine.{NextLine}
-use Rattle.reader.specs.declared.lines.NextLine.TheVariants.{Ended, Unended, Missing}
+use Rattle.reader.specs.declared.lines.NoLine.{NoLine}
 use Rattle.reader.specs.Steps.{LineEnds, LineStep, fields_left, next_bytes}
 use Rattle.reader.specs.Fields.{Lacks, commas, fields_of}
-use Rattle.reader.proofs.Cuts.{no_cut, cut_unique}
+use Rattle.reader.proofs.Cuts.{cut_unique}
 use Rattle.reader.proofs.Splits.{commas_fields, fields_commas}
 use Rattle.rows.specs.declared.kind.FileKind.{FileKind}
 use Rattle.rows.specs.declared.order.Order.{Order}
@@ -37,22 +36,14 @@ first_line kind bytes text after split whole n =
     let c = cut_unique 10 text (commas (names_in kind n.0)) after n.1 whole (names_whole kind n.0) (sym split ∙ n.3 ∙ line_first (names_in kind n.0) n.1) in
     ap fields_of c.0 ∙ names_split kind n.0 n.2
 
--- a file that begins with the names has a line end
-pub has_end : (kind : FileKind) (bytes : List ℕ) → Lacks 10 bytes → Named kind bytes → ⊥
-has_end kind bytes h n = no_cut 10 (commas (names_in kind n.0)) bytes n.1 h (n.3 ∙ line_first (names_in kind n.0) n.1)
-
-pub nothing : (kind : FileKind) (bytes : List ℕ) → bytes ≡ [] → Named kind bytes → ⊥
-nothing kind bytes e n = has_end kind bytes (λ k l _. omega (arith, ap length e)) n
-
 -- the fields of a line are its text
 pub line_written : (bytes text after : List ℕ) (fields : List (List ℕ)) → bytes ≡ text ++ 10 ∷ after → fields_of text ≡ fields → bytes ≡ line_of fields ++ after
 line_written bytes text after fields split e = split ∙ ap (λ t. t ++ 10 ∷ after) (sym (commas_fields text) ∙ ap commas e) ∙ sym (line_first fields after)
 
--- what the reader says of the first line
-pub not_ended : (kind : FileKind) (r s : Reader) (next : NextLine) → LineStep r next s → (next ≡ Ended → ⊥) → Named kind (next_bytes r) → ⊥
-not_ended kind r s Ended h other n = other refl
-not_ended kind r s Unended h other n = has_end kind (next_bytes r) h.1 n
-not_ended kind r s Missing h other n = nothing kind (next_bytes r) h.0 n
+-- where a line with its end came next, the reader stands at its start
+pub line_taken : (r s : Reader) (next : Result (Unit {0}) NoLine) → LineStep r next s → true ≡ is_ok next → LineEnds r s
+line_taken r s (Ok u) h e = h
+line_taken r s (Err why) h e = cc
 
 pub header_read : (kind : FileKind) (r s : Reader) (left : List ℕ) (o : Option Order) → LineEnds r s → NamesRead kind (fields_left s) o → left ≡ next_bytes s → HeaderRead kind (next_bytes r) left o
 header_read kind r s left (Some o) ends h same = (h.0, line_written (next_bytes r) ends.text left (names_in kind (columns_in o)) (ends.split ∙ ap (λ t. ends.text ++ 10 ∷ t) (sym same)) (sym ends.fields ∙ h.1))
@@ -61,7 +52,3 @@ header_read kind r s left None ends h same = λ n. h n.0 n.2 (ends.fields ∙ fi
 pub names_decide : (kind : FileKind) (bytes left : List ℕ) (o : Option Order) → HeaderRead kind bytes left o → Decides (is_some o) (Named kind bytes)
 names_decide kind bytes left (Some o) h = (λ _. (columns_in o, left, subst (λ k. EachOnce (width k) (columns_in o)) h.0 (order_once o), h.1), λ _. refl)
 names_decide kind bytes left None h = (λ e. absurd (clash e), λ n. absurd (h n))
-
-pub found_all : {X : Type 0} (o : Option X) {P : Type 0} → P → IfSome o (λ _. P)
-found_all None p = tt
-found_all (Some x) p = p

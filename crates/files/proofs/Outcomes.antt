@@ -19,7 +19,7 @@ use Rattle.rows.proofs.Spelled.{order_once}
 use Rattle.faults.specs.declared.file.FileFault.{FileFault}
 use Rattle.faults.specs.declared.file.FileFault.TheVariants.{Names, Row}
 use Rattle.files.specs.Format.{AcceptedExactly, Ending, LineWrong, OneOutcome, Outcome, Spelled, Unnamed, WithinLimits, ended, over, wrong, named, unnamed, line_of, lines_of, most, when_ended}
-use Rattle.files.specs.Reads.{FileRead, Filled, HeaderRead, NoOther, Read, RowsRead}
+use Rattle.files.specs.Reads.{FileRead, Filled, NoOther, Read, RowsRead}
 use Rattle.files.proofs.Headers.{line_first, names_split, names_whole}
 use Rattle.files.proofs.Written.{within_room}
 
@@ -114,7 +114,7 @@ one_outcome kind room bytes rows others said other (named {order = o} {rest = r}
 
 -- a file that ends after some row is accepted, and no other
 some_row : (kind : FileKind) (n : ℕ) → when_ended kind n ≡ None → 0 < n
-some_row kind zero e = let z : ◌≡◌ {A = ℕ} 0 1 = cc in absurd (omega arith)
+some_row kind zero e = cc
 some_row kind (suc n) e = omega arith
 
 ends_well : (kind : FileKind) (order : List ℕ) (room n : ℕ) → 0 < n → Ending kind order room n [] None
@@ -126,10 +126,10 @@ not_zero zero h = absurd (h refl)
 not_zero (suc n) h = omega arith
 
 spelled_of : (kind : FileKind) (room : ℕ) (bytes : List ℕ) (rows : List (List ℤ)) (said : Option FileFault) → said ≡ None → Outcome kind room bytes rows said → Spelled kind bytes rows × WithinLimits kind room (length rows)
-spelled_of kind room bytes rows said e (unnamed u) = let z : ◌≡◌ {A = ℕ} 0 1 = cc in absurd (omega arith)
+spelled_of kind room bytes rows said e (unnamed u) = cc
 spelled_of kind room bytes rows said e (named {order = o} {rows = rs} each text fits few ended) = (record { order = o; each = each; text = text ∙ ap (λ t. line_of (names_in kind o) ++ t) (append-nil (lines_of o rs)); fits = fits }, (some_row kind (length rs) e, few))
-spelled_of kind room bytes rows said e (named each text fits few (over some full)) = let z : ◌≡◌ {A = ℕ} 0 1 = cc in absurd (omega arith)
-spelled_of kind room bytes rows said e (named each text fits few (wrong less h)) = let z : ◌≡◌ {A = ℕ} 0 1 = cc in absurd (omega arith)
+spelled_of kind room bytes rows said e (named each text fits few (over some full)) = cc
+spelled_of kind room bytes rows said e (named each text fits few (wrong less h)) = cc
 
 pub accepted : AcceptedExactly
 accepted kind room bytes rows = (
@@ -153,37 +153,26 @@ module _ {R : Type 0} (kind : FileKind) (fields : R → List ℤ) (bytes : List 
   no_other (Ok n) h = no_other_at n None h
   no_other (Err fault) h = no_other_at h.0 (Some fault) h.1
 
-  -- the file begins with the names, and the reader stands behind them
-  module _ (other : FileKind) (o : Order) (first left : List ℕ) (same : other ≡ kind) (is : first ≡ bytes) (header : HeaderRead other first left (Some o)) where
-    order_kind : o.kind ≡ kind
-    order_kind = header.0 ∙ same
-
+  -- the file begins with the names in this order
+  module _ (o : Order) (left : List ℕ) (own : o.kind ≡ kind) (text : bytes ≡ line_of (names_in kind (columns_in o)) ++ left) where
     read_to : (n : ℕ) (rest : List ℕ) (said : Option FileFault) → Filled kind fields (columns_in o) left rest old new n → Ending kind (columns_in o) (length old) n rest said → Read kind fields bytes old new n said
     read_to n rest said h end =
         let c = count n (omega (arith, h.room, within_room kind (length old))) in
         record {
-          outcome = named (subst (λ k. EachOnce (width k) (columns_in o)) order_kind (order_once o)) (sym is ∙ header.1 ∙ ap (λ k. line_of (names_in k (columns_in o)) ++ left) same ∙ ap (λ t. line_of (names_in kind (columns_in o)) ++ t) h.text) h.fits (subst (λ k. k ≤ most kind (length old)) (sym c) h.room) (subst (λ k. Ending kind (columns_in o) (length old) k rest said) (sym c) end);
+          outcome = named (subst (λ k. EachOnce (width k) (columns_in o)) own (order_once o)) (text ∙ ap (λ t. line_of (names_in kind (columns_in o)) ++ t) h.text) h.fits (subst (λ k. k ≤ most kind (length old)) (sym c) h.room) (subst (λ k. Ending kind (columns_in o) (length old) k rest said) (sym c) end);
           room = omega (arith, h.room, within_room kind (length old));
           others = h.others;
         }
 
-    pub read_stopped : (r : Result ℕ FileFault) (f : FileFault) → RowsRead kind fields (columns_in o) left old new r → r ≡ Err f → FileRead kind fields bytes old new (Err f)
-    read_stopped r f h e =
-        let p : RowsRead kind fields (columns_in o) left old new (Err f) = subst (RowsRead kind fields (columns_in o) left old new) e h in
-        (p.0, read_to p.0 p.1 (Some f) p.2 p.4)
+    pub read_stopped : (f : FileFault) → RowsRead kind fields (columns_in o) left old new (Err f) → FileRead kind fields bytes old new (Err f)
+    read_stopped f p = (p.0, read_to p.0 p.1 (Some f) p.2 p.4)
 
-    pub read_empty : (r : Result ℕ FileFault) (n : ℕ) (k : FileKind) (f : FileFault) → RowsRead kind fields (columns_in o) left old new r → r ≡ Ok n → n ≡ 0 → k ≡ kind → Some f ≡ when_ended k 0 → FileRead kind fields bytes old new (Err f)
-    read_empty r n k f h e none kind_is said =
-        let p : Filled kind fields (columns_in o) left [] old new n = subst (RowsRead kind fields (columns_in o) left old new) e h in
-        (0, read_to 0 [] (Some f) (subst (Filled kind fields (columns_in o) left [] old new) none p) (subst (Ending kind (columns_in o) (length old) 0 []) (sym (said ∙ ap (λ x. when_ended x 0) kind_is)) ended))
+    pub read_empty : (n : ℕ) (f : FileFault) → RowsRead kind fields (columns_in o) left old new (Ok n) → n ≡ 0 → Some f ≡ when_ended kind 0 → FileRead kind fields bytes old new (Err f)
+    read_empty n f p none said = (0, read_to 0 [] (Some f) (subst (Filled kind fields (columns_in o) left [] old new) none p) (subst (Ending kind (columns_in o) (length old) 0 []) (sym said) ended))
 
-    pub read_all : (r : Result ℕ FileFault) (n : ℕ) → RowsRead kind fields (columns_in o) left old new r → r ≡ Ok n → (n ≡ 0 → ⊥) → FileRead kind fields bytes old new (Ok n)
-    read_all r n h e some =
-        let p : Filled kind fields (columns_in o) left [] old new n = subst (RowsRead kind fields (columns_in o) left old new) e h in
-        read_to n [] None p (ends_well kind (columns_in o) (length old) n (not_zero n some))
+    pub read_all : (n : ℕ) → RowsRead kind fields (columns_in o) left old new (Ok n) → (n ≡ 0 → ⊥) → FileRead kind fields bytes old new (Ok n)
+    read_all n p some = read_to n [] None p (ends_well kind (columns_in o) (length old) n (not_zero n some))
 
   -- the file does not begin with the names
-  pub read_unnamed : (other : FileKind) (first left : List ℕ) (o : Option Order) → other ≡ kind → first ≡ bytes → new ≡ old → HeaderRead other first left o → o ≡ None → FileRead kind fields bytes old new (Err Names)
-  read_unnamed other first left o same is kept header e =
-      let h : Unnamed other first = subst (HeaderRead other first left) e header in
-      (0, record { outcome = unnamed (subst (λ k. Unnamed k bytes) same (subst (Unnamed other) is h)); room = omega arith; others = kept })
+  pub read_unnamed : Unnamed kind bytes → new ≡ old → FileRead kind fields bytes old new (Err Names)
+  read_unnamed h kept = (0, record { outcome = unnamed h; room = omega arith; others = kept })

@@ -6,7 +6,6 @@ use Rattle.rows.specs.declared.kind.FileKind.{FileKind}
 use Rattle.rows.specs.declared.order.Order.{Order}
 use Rattle.rows.specs.Lines.{Fits, cells_in, columns_in, names_in}
 use Rattle.faults.specs.declared.file.FileFault.{FileFault}
-use Rattle.faults.specs.declared.file.FileFault.TheVariants.{Row}
 use Rattle.files.specs.Format.{Ending, LineWrong, Outcome, Unnamed, line_of, lines_of, most, too_many}
 
 -- the bytes begin with the names in this order, before those that are left; or they do not begin with the names
@@ -23,11 +22,6 @@ RoomLeft kind n room (Err fault) = (n ≡ most kind room) × (fault ≡ too_many
 abbrev pub LineRead : {R : Type 0} → FileKind → (R → List ℤ) → List ℕ → List ℕ → List ℕ → Result R RowFault → Type 0
 LineRead kind fields order bytes after (Ok row) = (bytes ≡ line_of (cells_in order (fields row)) ++ after) × Fits kind (fields row)
 LineRead kind fields order bytes after (Err fault) = 0 < length bytes → LineWrong kind order bytes fault
-
--- the same, the fault with the number of the line
-abbrev pub LineReadAt : {R : Type 0} → FileKind → (R → List ℤ) → List ℕ → ℕ → List ℕ → List ℕ → Result R FileFault → Type 0
-LineReadAt kind fields order number bytes after (Ok row) = (bytes ≡ line_of (cells_in order (fields row)) ++ after) × Fits kind (fields row)
-LineReadAt kind fields order number bytes after (Err fault) = (f : RowFault) × (fault ≡ Row number f) × (0 < length bytes → LineWrong kind order bytes f)
 
 -- the first n rows of the table are those that stand in front of rest, and the other rows are as they were
 pub record Filled {R : Type 0} (kind : FileKind) (fields : R → List ℤ) (order : List ℕ) (bytes rest : List ℕ) (old new : List R) (n : ℕ) : Type 0 where

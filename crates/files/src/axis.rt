@@ -1,12 +1,18 @@
-ghost use Rattle.std.specs.Prelude.{◌≡◌, ◌<◌, pos, slice_index_or};
+ghost use Rattle.std.specs.Prelude.{◌≡◌, map};
 ghost use Rattle.points.specs.Kinds.{told};
 
 use rows::kind::FULL;
 
-// The number of 16 bits that is nearest to value k.
-pub(crate) fn nearest_axis(values: &[i32; 4], k: usize) -> i16
-    requires { k < 4 }
-    ensures { result ≡ told (slice_index_or values.now k (pos 0)) }
+// The number of 16 bits that is nearest to a value.
+fn nearest_axis(value: i32) -> i16
+    ensures { result ≡ told value }
 {
-    FULL.nearest(values[k]) as i16
+    FULL.nearest(value) as i16
+}
+
+// Those that are nearest to the values.
+pub(crate) fn nearest_axes(values: &[i32; 4]) -> [i16; 4]
+    ensures { result ≡ map told values.now }
+{
+    values.map(nearest_axis)
 }

@@ -2,26 +2,21 @@ ghost use Rattle.std.specs.Prelude.{◌≡◌, List, ℤ};
 ghost use Rattle.rows.specs.declared.kind.FileKind.TheVariants.{DriveRecords, DriveCenters};
 ghost use Rattle.files.specs.Rows.{drive_fields};
 
-use crate::axis::nearest_axis;
+use crate::axis::nearest_axes;
 use crate::row::{CenterRow, Row};
 use points::drive::DriveRecord;
 use points::position::Position;
 use rows::kind::FileKind;
 
 impl Row for DriveRecord {
-    ghost kind = { DriveRecords };
+    const KIND: FileKind = FileKind::DriveRecords;
+
+    ghost KIND = { DriveRecords };
 
     ghost fields = { drive_fields };
 
-    fn kind() -> FileKind {
-        FileKind::DriveRecords
-    }
-
     fn from_values(values: &[i32; 4]) -> DriveRecord {
-        let lag = nearest_axis(values, 0);
-        let torque = nearest_axis(values, 1);
-        let speed = nearest_axis(values, 2);
-        let temp = nearest_axis(values, 3);
+        let [lag, torque, speed, temp] = nearest_axes(values);
         DriveRecord {
             lag,
             torque,
@@ -38,13 +33,11 @@ pub struct DriveCenter {
 }
 
 impl Row for DriveCenter {
-    ghost kind = { DriveCenters };
+    const KIND: FileKind = FileKind::DriveCenters;
+
+    ghost KIND = { DriveCenters };
 
     ghost fields = { λ c. drive_fields c.at };
-
-    fn kind() -> FileKind {
-        FileKind::DriveCenters
-    }
 
     fn from_values(values: &[i32; 4]) -> DriveCenter {
         DriveCenter {

@@ -4,7 +4,6 @@ ghost use Rattle.files.specs.Format.{Named};
 ghost use Rattle.files.specs.Reads.{HeaderRead};
 
 use reader::cursor::Reader;
-use reader::lines::NextLine;
 use rows::kind::FileKind;
 use rows::names::read_names;
 use rows::order::Order;
@@ -15,9 +14,7 @@ pub(crate) fn read_header(reader: &mut Reader<'_>, kind: FileKind) -> Option<Ord
     ensures header { HeaderRead kind (next_bytes reader.old) (next_bytes reader.new) result }
     ensures line { OnSome result (line_number reader.new ≡ line_number reader.old + 1) }
 {
-    let NextLine::Ended = reader.next_line() else {
-        return None;
-    };
+    reader.next_line().ok()?;
     read_names(reader, kind)
 }
 
@@ -25,6 +22,5 @@ pub(crate) fn read_header(reader: &mut Reader<'_>, kind: FileKind) -> Option<Ord
 pub fn has_names(bytes: &[u8], kind: FileKind) -> bool
     ensures { Decides result (Named kind bytes.now) }
 {
-    let mut reader = Reader::new(bytes);
-    read_header(&mut reader, kind).is_some()
+    read_header(&mut Reader::new(bytes), kind).is_some()
 }

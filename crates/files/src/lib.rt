@@ -4,6 +4,7 @@
 mod axis;
 pub mod drive;
 pub mod header;
+mod lines;
 pub mod row;
 pub mod table;
 pub mod telegram;

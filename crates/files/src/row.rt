@@ -9,17 +9,16 @@ use rows::kind::FileKind;
 
 // What a file has in its lines: `fields` are its values, in the kind's own order of the columns.
 pub trait Row: Copy {
-    ghost kind: { FileKind };
+    // The kind of the files that have such rows.
+    const KIND: FileKind;
+
+    ghost KIND: { FileKind };
 
     ghost fields: { Self → List ℤ };
 
-    // The kind of the files that have such rows.
-    fn kind() -> FileKind
-        ensures { result ≡ kind };
-
     // The row of these values, one for each column; a value outside its column's range is taken as the nearest in it.
     fn from_values(values: &[i32; 4]) -> Self
-        ensures { fields result ≡ nearests (columns_of kind) values.now };
+        ensures { fields result ≡ nearests (columns_of KIND) values.now };
 }
 
 // A row of a file of centers.

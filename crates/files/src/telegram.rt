@@ -2,23 +2,22 @@ ghost use Rattle.std.specs.Prelude.{◌≡◌, List, ℤ};
 ghost use Rattle.rows.specs.declared.kind.FileKind.TheVariants.{TelegramRecords, TelegramCenters};
 ghost use Rattle.files.specs.Rows.{telegram_fields, telegram_center_fields};
 
-use crate::axis::nearest_axis;
+use crate::axis::nearest_axes;
 use crate::row::{CenterRow, Row};
 use points::position::Position;
 use points::telegram::TelegramRecord;
 use rows::kind::FileKind;
 
 impl Row for TelegramRecord {
-    ghost kind = { TelegramRecords };
+    const KIND: FileKind = FileKind::TelegramRecords;
+
+    ghost KIND = { TelegramRecords };
 
     ghost fields = { telegram_fields };
 
-    fn kind() -> FileKind {
-        FileKind::TelegramRecords
-    }
-
     fn from_values(values: &[i32; 4]) -> TelegramRecord {
-        TelegramRecord::nearest(values[0], values[1], values[2])
+        let [gap, length, hold, _] = *values;
+        TelegramRecord::nearest(gap, length, hold)
     }
 }
 
@@ -30,17 +29,14 @@ pub struct TelegramCenter {
 }
 
 impl Row for TelegramCenter {
-    ghost kind = { TelegramCenters };
+    const KIND: FileKind = FileKind::TelegramCenters;
+
+    ghost KIND = { TelegramCenters };
 
     ghost fields = { telegram_center_fields };
 
-    fn kind() -> FileKind {
-        FileKind::TelegramCenters
-    }
-
     fn from_values(values: &[i32; 4]) -> TelegramCenter {
-        let gap = nearest_axis(values, 0);
-        let length = nearest_axis(values, 1);
+        let [gap, length, ..] = nearest_axes(values);
         TelegramCenter { gap, length }
     }
 }

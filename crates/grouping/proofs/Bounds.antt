@@ -19,17 +19,17 @@ use Rattle.grouping.proofs.Totaled.{modest_entries, weight_low, weight_high, sum
 use Rattle.grouping.proofs.Totals.{all_of, total_rises, total_scaled, held_high}
 
 -- records of any kind whose laws keep to them, few enough, are within the limits
-pub limited_entries : {R : Type 0} (kindP : PointGhosts R) (kindR : RecordGhosts R) → kindP.axes ≤ 4 →
-    ((p : R) → length (kindP.place p) ≡ kindP.axes) →
+pub limited_entries : {R : Type 0} (kindP : PointGhosts R) (kindR : RecordGhosts R) → kindP.AXES ≤ 4 →
+    ((p : R) → length (kindP.place p) ≡ kindP.AXES) →
     ((p : R) (k : ℕ) → (negsuc 32767 ≤ℤ get_or (kindP.place p) k (pos 0)) × (get_or (kindP.place p) k (pos 0) ≤ℤ pos 32767)) →
     ((r : R) → (1 ≤ kindR.hold r) × (kindR.hold r ≤ 65535)) →
-    (rs : List R) → length rs ≤ 4096 → Limited kindP.axes (entries kindP kindR rs)
+    (rs : List R) → length rs ≤ 4096 → Limited kindP.AXES (entries kindP kindR rs)
 limited_entries kindP kindR short sized ranged held rs few =
     record {
       short = short;
       few = omega (arith, length-map rs (λ r. entry kindP kindR r));
       held = (modest_entries kindP kindR ranged held rs).held;
-      fit = All-map (λ e. Fits kindP.axes e.place) (λ r. entry kindP kindR r) rs (all_of (λ r. (sized r, All-from_get_or InRange (kindP.place r) (pos 0) (λ i l. ranged r i))) rs);
+      fit = All-map (λ e. Fits kindP.AXES e.place) (λ r. entry kindP kindR r) rs (all_of (λ r. (sized r, All-from_get_or InRange (kindP.place r) (pos 0) (λ i l. ranged r i))) rs);
     }
 
 pub weight_bound : WeightBound

@@ -1,12 +1,13 @@
 -- Exactly one center is chosen.
-use Rattle.std.proofs.Common.{◌≡◌, ℕ, zero, suc, ◌+◌, ◌<◌, ◌≤◌, Bool, true, false, cond, List, [], ◌∷◌, length, ℤ, ◌≤ℤ◌, ◌<ℤ◌, sym, refl, ap, ◌∙◌, subst, inl, inr, arith, w64, SFits, to_z, of_z}
+use Rattle.std.proofs.Common.{◌≡◌, ℕ, Option, Some, None, MatchOption, zero, suc, ◌<◌, Bool, true, false, cond, List, [], ◌∷◌, length, ◌≤ℤ◌, sym, refl, subst, inl, inr, arith}
 use borrow.Author.Differences.{ints}
 use lib.Signed.{lt_z}
-use Rattle.std.proofs.lemmas.Int.{by_lt_z, to_z-of_z}
-use Rattle.std.proofs.lemmas.Bool.{cases_eq}
+use Rattle.std.proofs.lemmas.Int.{by_lt_z}
+use Rattle.std.proofs.lemmas.Bool.{cases_eq, cases_lt}
 use Rattle.grouping.specs.Distance.{Place, dist}
 use Rattle.grouping.specs.Choice.{center, Beats, Chosen, choose}
 use Rattle.numbers.proofs.Ring.{lin}
+use Rattle.numbers.proofs.Firsts.{FirstLeast}
 
 -- one more center, ahead of the others
 ahead : (c : Place) (cs : List Place) (p : Place) (j : ℕ) (b : Bool) → lt_z (dist p (center cs j)) (dist p c) ≡ b → Chosen cs p j → Chosen (c ∷ cs) p (cond b (suc j) 0)
@@ -53,42 +54,21 @@ nearest_of cs p j l = elim (cases_eq j (choose cs p)) [
   | inr n ↦ let b = (chosen cs p (omega arith)).beats j l n in omega (arith, lin)
 ]
 
--- ---- a search for the nearest of the first i centers
+-- ---- the first of the nearest
 
--- of the first i, center b is chosen
-abbrev pub Leads : List Place → Place → ℕ → ℕ → Type 0
-Leads cs p i b = (b < i) × ((j : ℕ) → j < i → (j ≡ b → ⊥) → Beats cs p b j)
-
-pub leads_first : (cs : List Place) (p : Place) → Leads cs p 1 0
-leads_first cs p = (omega arith, λ j l n. absurd (omega arith))
-
-pub leads_keeps : (cs : List Place) (p : Place) (i b : ℕ) → Leads cs p i b → dist p (center cs b) ≤ℤ dist p (center cs i) → Leads cs p (i + 1) b
-leads_keeps cs p i b h le = (omega (arith, h.0), win)
+first_chosen : (cs : List Place) (p : Place) (k : ℕ) → FirstLeast (λ i. dist p (center cs i)) (length cs) k → Chosen cs p k
+first_chosen cs p k h = record { one_of = h.there; beats = win }
   where
-    win : (j : ℕ) → j < i + 1 → (j ≡ b → ⊥) → Beats cs p b j
-    win j l n = elim (cases_eq j i) [
-      | inl e ↦ rw e (by_lt_z (dist p (center cs b)) (dist p (center cs i)) (λ less. inl less) (λ most. inr (omega (arith, lin), h.0)))
-      | inr m ↦ h.1 j (omega arith) n
+    win : (j : ℕ) → j < length cs → (j ≡ k → ⊥) → Beats cs p k j
+    win j l n = elim (cases_lt j k) [
+      | inl b ↦ inl (h.first j b)
+      | inr a ↦ by_lt_z (dist p (center cs k)) (dist p (center cs j)) (λ less. inl less) (λ most. let least = h.least j l in inr (omega (arith, lin), omega arith))
     ]
 
-pub leads_takes : (cs : List Place) (p : Place) (i b : ℕ) → Leads cs p i b → dist p (center cs i) <ℤ dist p (center cs b) → Leads cs p (i + 1) i
-leads_takes cs p i b h less = (omega arith, win)
-  where
-    win : (j : ℕ) → j < i + 1 → (j ≡ i → ⊥) → Beats cs p i j
-    win j l n = elim (cases_eq j b) [
-      | inl e ↦ rw e (inl less)
-      | inr m ↦ elim (h.1 j (omega arith) m) [ inl q ↦ inl (omega (arith, lin)) | inr q ↦ inl (omega (arith, lin, q.0)) ]
-    ]
-
-pub leads_all : (cs : List Place) (p : Place) (i b : ℕ) → length cs ≤ i → i ≤ length cs → Leads cs p i b → Chosen cs p b
-leads_all cs p i b long short h = record { one_of = omega (arith, h.0); beats = λ j l n. h.1 j (omega arith) n }
-
--- the code's turn: d is the distance of center i, and least that of the best so far
-module _ (cs : List Place) (p : Place) (i b : ℕ) (d least : ℤ) (fits : SFits w64 d) (at : d ≡ dist p (center cs i)) (best : least ≡ dist p (center cs b)) (leads : Leads cs p i b) where
-  pub turn_takes : (b' : ℕ) (least' : ℤ) → lt_z (to_z w64 (of_z w64 d)) least ≡ true → b' ≡ i → least' ≡ to_z w64 (of_z w64 d) → (least' ≡ dist p (center cs b')) × Leads cs p (i + 1) b'
-  turn_takes b' least' t e f =
-      (f ∙ to_z-of_z w64 d fits ∙ at ∙ ap (λ k. dist p (center cs k)) (sym e), subst (Leads cs p (i + 1)) (sym e) (leads_takes cs p i b leads (omega (arith, ints))))
-
-  pub turn_keeps : (b' : ℕ) (least' : ℤ) → lt_z (to_z w64 (of_z w64 d)) least ≡ false → b' ≡ b → least' ≡ least → (least' ≡ dist p (center cs b')) × Leads cs p (i + 1) b'
-  turn_keeps b' least' t e f =
-      (f ∙ best ∙ ap (λ k. dist p (center cs k)) (sym e), subst (Leads cs p (i + 1)) (sym e) (leads_keeps cs p i b leads (omega (arith, ints))))
+-- what a search for the first of the nearest of n centers answers
+pub chosen_first : (cs : List Place) (p : Place) (n : ℕ) (r : Option ℕ) → length cs ≡ n → MatchOption r (n ≡ 0) (FirstLeast (λ i. dist p (center cs i)) n) →
+    MatchOption r (n ≡ 0) (λ k. (k < n) × (Chosen cs p k × (k ≡ choose cs p)))
+chosen_first cs p n None e h = h
+chosen_first cs p n (Some k) e h =
+    let c = first_chosen cs p k (subst (λ m. FirstLeast (λ i. dist p (center cs i)) m k) (sym e) h) in
+    (h.there, (c, chosen_is cs p k c))

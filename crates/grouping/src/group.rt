@@ -1,7 +1,7 @@
 use points::position::Position;
 
 // A center, and the weight and the sums of the records of its group.
-#[derive(Clone, Copy)]
+#[derive(Clone, Copy, Default)]
 pub struct Group {
     pub center: Position,
     pub weight: u32,

@@ -75,7 +75,7 @@ pub fn bound_laws()
 
 // The records of a recording, of whatever kind, are within these limits.
 pub fn recording_limits<R: Record>(recording: &Recording<R>)
-    ensures { Limited R.Point.axes (recorded R.Point R.Record.own recording.now) }
+    ensures { Limited R.Point.AXES (recorded R.Point R.Record.own recording.now) }
 {}
 
 // Which of two centers is nearer to all of a box, by one corner, and by the greatest and the least distance.

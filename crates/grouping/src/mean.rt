@@ -1,7 +1,7 @@
 ghost use Rattle.std.specs.Prelude.{◌≡◌, pos, ◌≢◌};
 ghost use Rattle.grouping.specs.Rounding.{Rounded, rounded};
 
-// The whole number nearest to sum / weight, the lower of two; 0 where there is no weight.
+// The whole number nearest to sum / weight, the lower of two; 0 where there is no weight. No Option: 0 is promised there.
 pub fn rounded_mean(sum: i64, weight: u32) -> i64
     ensures mean { (weight ≢ 0) → Rounded sum (pos weight) result }
     ensures is { (weight ≢ 0) → result ≡ rounded sum (pos weight) }

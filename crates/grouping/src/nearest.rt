@@ -8,19 +8,7 @@ use points::point::Point;
 
 // The number of the center that is nearest to the point, the lowest of several; none where there is no center.
 pub fn nearest<R: Point>(r: &R, groups: &[Group]) -> Option<usize>
-    ensures { MatchOption result (length groups.now ≡ 0) (λ k. (k < length groups.now) × (Chosen (places R.Point.axes groups.now) (R.Point.place r.now) k × (k ≡ choose (places R.Point.axes groups.now) (R.Point.place r.now)))) }
+    ensures { MatchOption result (length groups.now ≡ 0) (λ k. (k < length groups.now) × (Chosen (places R.Point.AXES groups.now) (R.Point.place r.now) k × (k ≡ choose (places R.Point.AXES groups.now) (R.Point.place r.now)))) }
 {
-    if groups.is_empty() {
-        return None;
-    }
-    let mut best = 0;
-    let mut least = squared_distance(r, &groups[0].center);
-    for i in 1..groups.len() {
-        let d = squared_distance(r, &groups[i].center);
-        if d < least {
-            best = i;
-            least = d;
-        }
-    }
-    Some(best)
+    (0..groups.len()).min_by_key(|k| squared_distance(r, &groups[*k].center))
 }

@@ -1,5 +1,9 @@
+pub mod Firsts
+pub mod Indices
+pub mod Made
 pub mod NormalForms
 pub mod Polynomials
 pub mod Quote
 pub mod Ring
 pub mod Sums
+pub mod Summing

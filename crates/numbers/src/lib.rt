@@ -1,4 +1,4 @@
-// Whole numbers: the laws of their sums, products and order, and of sums over lists. The other crates prove identities of polynomials by its
+// Whole numbers: the laws of their sums, products and order, of sums over lists, and what chains over a range of indices answer. The other crates prove identities of polynomials by its
 // proofs/Quote.antt.
 #![tactic(auto)]
 

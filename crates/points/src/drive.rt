@@ -17,7 +17,7 @@ pub struct DriveRecord {
 impl Point for DriveRecord {
     const AXES: usize = 4;
 
-    ghost axes = { 4 };
+    ghost AXES = { 4 };
 
     ghost place = { drive_place };
 
@@ -26,10 +26,6 @@ impl Point for DriveRecord {
     ghost sized = { Prim.search rules };
 
     ghost ranged = { λ d k. told_ranged d.lag d.torque d.speed d.temp k };
-
-    fn axis_count() -> usize {
-        Self::AXES
-    }
 
     fn axis(&self, k: usize) -> i16 {
         match k {

@@ -2,24 +2,20 @@ ghost use Rattle.std.specs.Prelude.{◌≡◌, ℕ, ◌≤◌, List, length, ℤ
 
 // What has a place: one whole number of 16 bits on each of 1 to 4 axes.
 pub trait Point {
-    // The number of axes, where the kind of points is known. Generic code asks `axis_count`.
+    // The number of axes.
     const AXES: usize;
 
-    ghost axes: { ℕ };
+    ghost AXES: { ℕ };
 
     ghost place: { Self → List ℤ };
-
-    // The number of axes.
-    fn axis_count() -> usize
-        ensures { result ≡ axes };
 
     // The number on axis k; 0 on an axis that the point has not.
     fn axis(&self, k: usize) -> i16
         ensures { result ≡ slice_index_or (place self.now) k (pos 0) };
 
-    ghost few: { (1 ≤ axes) × (axes ≤ 4) };
+    ghost few: { (1 ≤ AXES) × (AXES ≤ 4) };
 
-    ghost sized: { (p : Self) → length (place p) ≡ axes };
+    ghost sized: { (p : Self) → length (place p) ≡ AXES };
 
     ghost ranged: { (p : Self) (k : ℕ) → (negsuc 32767 ≤ℤ slice_index_or (place p) k (pos 0)) × (slice_index_or (place p) k (pos 0) ≤ℤ pos 32767) };
 }

@@ -6,7 +6,7 @@ ghost use Rattle.std.proofs.Common.{rules};
 use crate::point::Point;
 
 // A place on four axes; a kind with fewer axes uses the first of them.
-#[derive(Clone, Copy)]
+#[derive(Clone, Copy, Default)]
 pub struct Position {
     pub at: [i16; 4],
 }
@@ -14,7 +14,7 @@ pub struct Position {
 impl Point for Position {
     const AXES: usize = 4;
 
-    ghost axes = { 4 };
+    ghost AXES = { 4 };
 
     ghost place = { position_place };
 
@@ -24,11 +24,7 @@ impl Point for Position {
 
     ghost ranged = { λ p k. told_ranged (slice_index_or p.at 0 (pos 0)) (slice_index_or p.at 1 (pos 0)) (slice_index_or p.at 2 (pos 0)) (slice_index_or p.at 3 (pos 0)) k };
 
-    fn axis_count() -> usize {
-        Self::AXES
-    }
-
     fn axis(&self, k: usize) -> i16 {
-        if k < Self::AXES { self.at[k] } else { 0 }
+        self.at.get(k).copied().unwrap_or(0)
     }
 }

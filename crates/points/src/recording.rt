@@ -14,6 +14,7 @@ pub struct Recording<'a, R> {
     ghost few: { length records.now ≤ 4096 },
 }
 
+// by hand: derived, they would ask that the records are copied too
 impl<'a, R> Copy for Recording<'a, R> {}
 
 impl<'a, R> Clone for Recording<'a, R> {

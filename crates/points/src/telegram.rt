@@ -63,10 +63,11 @@ impl TelegramRecord {
     }
 }
 
+// The numbers are told within their ranges, whatever the fields hold: a kind tells of every value that its type has.
 impl Point for TelegramRecord {
     const AXES: usize = 2;
 
-    ghost axes = { 2 };
+    ghost AXES = { 2 };
 
     ghost place = { telegram_place };
 
@@ -75,10 +76,6 @@ impl Point for TelegramRecord {
     ghost sized = { Prim.search rules };
 
     ghost ranged = { Prim.search rules };
-
-    fn axis_count() -> usize {
-        Self::AXES
-    }
 
     fn axis(&self, k: usize) -> i16 {
         match k {

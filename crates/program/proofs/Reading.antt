@@ -1,16 +1,16 @@
 -- What a file that was read into a table of 4,096 rows is.
-use Rattle.std.proofs.Common.{◌≡◌, ℕ, ◌-◌, ◌<◌, ◌≤◌, min, Bool, true, false, cond, List, map, length, take, ℤ, Some, None, Ok, Err, Option, Result, sym, ap, ◌∙◌, subst, arith}
-use native.Mathlib.Nat.{sub-zero}
+use Rattle.std.proofs.Common.{◌≡◌, ℕ, ◌<◌, ◌≤◌, min, Bool, true, false, cond, List, map, length, take, ℤ, Some, None, Ok, Err, Option, Result, sym, ◌∙◌, subst, arith}
 use Rattle.std.proofs.lemmas.List.{length-map, length-take-le}
 use Rattle.rows.specs.declared.kind.FileKind.{FileKind}
 use Rattle.rows.specs.Columns.{is_centers}
 use Rattle.files.specs.Format.{Outcome, most}
 use Rattle.files.proofs.Outcomes.{accepted}
+use Rattle.faults.specs.declared.input_file.InputFile.{InputFile}
 use Rattle.faults.specs.declared.program.ProgramFault.{ProgramFault}
 use Rattle.faults.specs.declared.program.ProgramFault.TheVariants.{CannotOpen, TooLong, File}
 use Rattle.program.specs.Inputs.{Accepted, Loaded, Refused, faulty, unusable}
 
-module _ {R : Type 0} (file : ℕ) (kind : FileKind) (fields : R → List ℤ) (input : Option (List ℕ)) (old new : List R) (four : length old ≡ 4096) where
+module _ {R : Type 0} (file : InputFile) (kind : FileKind) (fields : R → List ℤ) (input : Option (List ℕ)) (old new : List R) (four : length old ≡ 4096) where
   refused_at : (fault : ProgramFault) → Loaded file kind fields input old new (Err fault) → Refused file kind input fault
   refused_at (CannotOpen n) h = unusable h
   refused_at (TooLong n) h = unusable h
@@ -28,13 +28,6 @@ module _ {R : Type 0} (file : ℕ) (kind : FileKind) (fields : R → List ℤ) (
       let a = (accepted kind 4096 p.0 (map fields (take n new))).0 outcome in
       let count : length (map fields (take n new)) ≡ n = length-map (take n new) fields ∙ length-take-le n new (omega (arith, p.2.room)) in
       (record { bytes = p.0; usable = p.1; spelled = a.0; limits = a.1 }, (subst (λ k. 0 < k) count a.1.0, subst (λ k. k ≤ most kind 4096) count a.1.1))
-
--- the part of a table that holds the rows, as the checker reads `table[0..n]`
-pub rows_read : {R : Type 0} (table : List R) (n : ℕ) → take (n - 0) table ≡ take n table
-rows_read table n = ap (λ k. take k table) (sub-zero n)
-
-pub count_read : {R : Type 0} (table : List R) (n : ℕ) → n ≤ length table → length (take (n - 0) table) ≡ n
-count_read table n l = ap length (rows_read table n) ∙ length-take-le n table l
 
 few_rows : (centers : Bool) (n : ℕ) → n ≤ cond centers (min 32 4096) 4096 → n ≤ 4096
 few_rows true n l = omega arith

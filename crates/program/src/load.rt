@@ -1,5 +1,6 @@
 ghost use Rattle.program.specs.Inputs.{Loaded, bytes_of, Admitted};
 
+use faults::input_file::InputFile;
 use faults::program::ProgramFault;
 use files::row::Row;
 use files::table::read_table;
@@ -9,12 +10,10 @@ use value::placed::place_at;
 pub(crate) const LONGEST: usize = 65536;
 
 // The bytes of a file, if it could be opened and is not too long.
-fn admit<'a>(file: usize, input: Option<&'a [u8]>) -> Result<&'a [u8], ProgramFault>
+fn admit<'a>(file: InputFile, input: Option<&'a [u8]>) -> Result<&'a [u8], ProgramFault>
     ensures { Admitted file (bytes_of input.entry) result }
 {
-    let Some(bytes) = input else {
-        return Err(ProgramFault::CannotOpen { file });
-    };
+    let bytes = input.ok_or(ProgramFault::CannotOpen { file })?;
     if bytes.len() > LONGEST {
         return Err(ProgramFault::TooLong { file });
     }
@@ -23,11 +22,11 @@ fn admit<'a>(file: usize, input: Option<&'a [u8]>) -> Result<&'a [u8], ProgramFa
 
 // Reads a file of the program into the table, and answers how many rows it has.
 pub(crate) fn load<R: Row>(
-    file: usize,
+    file: InputFile,
     input: Option<&[u8]>,
     table: &mut [R],
 ) -> Result<usize, ProgramFault>
-    ensures { Loaded file R.kind R.fields (bytes_of input.entry) table.old table.new result }
+    ensures { Loaded file R.KIND R.fields (bytes_of input.entry) table.old table.new result }
 {
     let bytes = admit(file, input)?;
     Ok(place_at(read_table(bytes, table), file)?)

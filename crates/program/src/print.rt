@@ -41,14 +41,12 @@ impl Report {
     pub fn line(&self, k: usize) -> Option<GroupLine>
         ensures { MatchOption result (self.now.count ≤ k) (λ l. (k < self.now.count) × LineOf self.now k l) }
     {
-        if k >= self.count {
-            return None;
-        }
+        let group = self.groups[..self.count].get(k)?;
         Some(GroupLine {
             kind: self.kind,
             number: k,
-            weight: self.groups[k].weight,
-            center: self.groups[k].center,
+            weight: group.weight,
+            center: group.center,
         })
     }
 }

@@ -7,6 +7,7 @@ use rows::kind::FileKind;
 #[derive(Clone, Copy)]
 pub struct Report {
     pub(crate) kind: FileKind,
+    // an array with a count: no heap, and no `ArrayVec`, which is not `Copy`
     pub(crate) count: usize,
     pub(crate) groups: [Group; 32],
     ghost few: { count ≤ 32 },

@@ -1,8 +1,7 @@
 -- What leaders leave, and what the candidates that are left are good for.
-use Rattle.std.proofs.Common.{◌≡◌, ℕ, suc, ◌+◌, ◌<◌, ◌≤◌, Bool, true, List, [], ◌∷◌, ◌++◌, length, get_or, take, ℤ, ◌≤ℤ◌, ◌<ℤ◌, filter, sym, refl, ap, ◌∙◌, subst, inl, inr, arith, take_all}
+use Rattle.std.proofs.Common.{◌≡◌, ℕ, suc, ◌<◌, ◌≤◌, Bool, true, List, [], length, get_or, take, filter, sym, refl, ap, ◌∙◌, subst, inl, inr, arith, take_all}
 use Rattle.std.specs.List.{ContainsAt as Has, AllByRecursion}
-use Rattle.std.proofs.ByRecursion.{All-get_or, All-from_get_or, all-has, all_kept_by, has_get_or, has_append_left, has_push, has_push_cases}
-use Rattle.std.proofs.lemmas.List.{length-take, get_or-take, take_more}
+use Rattle.std.proofs.ByRecursion.{All-get_or, All-from_get_or, all-has, all_kept_by, has_get_or}
 use Rattle.std.proofs.lemmas.Int.{by_lt_z}
 use Rattle.std.proofs.lemmas.Bool.{cases_Bool, cases_eq, eq-eqb, or_left, or_right, not_from_false}
 use Rattle.numbers.proofs.Ring.{lin}
@@ -10,14 +9,11 @@ use Rattle.numbers.proofs.Sums.{length_mapped, slice_index_mapped}
 use Rattle.grouping.specs.Boxes.{Inside, none, more, near}
 use Rattle.grouping.specs.Choice.{Beats, center, choose}
 use Rattle.grouping.specs.Distance.{Place, dist}
-use Rattle.grouping.specs.Groups.{place_of}
 use Rattle.grouping.proofs.Boxes.{far_and_near, far_and_near_reached}
 use Rattle.grouping.proofs.Choosing.{chosen}
-use Rattle.pruning.specs.declared.contender.Contender.{Contender}
 use Rattle.pruning.specs.Pruning.{numbers_of, Fit, Nearer, Leader, keeps, Left, Covers, Reached, from_all, pruned, inner, PrunesNone, ReachedCovers, LeadsAll}
 use Rattle.pruning.specs.Rules.{Test}
 use Rattle.pruning.proofs.Lists.{has_some, has_kept, rises_kept}
-use Rattle.pruning.proofs.Safety.{wins_beats}
 
 pub inside_length : {los his p : Place} → Inside los his p → length p ≡ length los
 inside_length none = refl
@@ -30,82 +26,6 @@ numbers_has cs k h = subst (Has (numbers_of cs)) (slice_index_mapped (λ i c. i)
 
 pub numbers_known : (cs : List Place) → AllByRecursion (λ k. k < length cs) (numbers_of cs)
 numbers_known cs = All-from_get_or (λ k. k < length cs) (numbers_of cs) 0 (λ i l. let h : i < length cs = omega (arith, length_mapped (λ j c. j) 0 cs) in rw (slice_index_mapped (λ j c. j) [] 0 i cs h) h)
-
--- ---- the leader of a list, one candidate after the other
-
-module _ (los his : Place) (cs : List Place) where
-  pub leader_first : (x : ℕ) → Leader los his cs (x ∷ []) x
-  leader_first x = record { one_of = has_push [] x; nearest = λ j h n. elim (has_push_cases [] x j h) [ inl q ↦ absurd (omega (arith, q.1)) | inr e ↦ absurd (n (sym e)) ] }
-
-  -- a later candidate that is no nearer
-  pub leader_keeps : (ks : List ℕ) (l x : ℕ) → Leader los his cs ks l → l < x → near los his (center cs l) ≤ℤ near los his (center cs x) → Leader los his cs (ks ++ x ∷ []) l
-  leader_keeps ks l x h less le = record {
-    one_of = has_append_left ks (x ∷ []) l h.one_of;
-    nearest = λ j r n. elim (has_push_cases ks x j r) [
-      | inl q ↦ h.nearest j q n
-      | inr e ↦ rw (sym e) (by_lt_z (near los his (center cs l)) (near los his (center cs x)) (λ nearer. inl nearer) (λ most. inr (omega (arith, lin), less)))
-    ];
-  }
-
-  -- one that is nearer
-  pub leader_takes : (ks : List ℕ) (l x : ℕ) → Leader los his cs ks l → near los his (center cs x) <ℤ near los his (center cs l) → Leader los his cs (ks ++ x ∷ []) x
-  leader_takes ks l x h less = record {
-    one_of = has_push ks x;
-    nearest = λ j r n. elim (has_push_cases ks x j r) [
-      | inl q ↦ elim (cases_eq j l) [
-        | inl e ↦ rw e (inl less)
-        | inr m ↦ elim (h.nearest j q m) [ inl z ↦ inl (omega (arith, lin)) | inr z ↦ inl (omega (arith, lin, z.0)) ]
-      ]
-      | inr e ↦ absurd (n (sym e))
-    ];
-  }
-
--- ---- the search for it
-
--- of the first i candidates `best` leads, and it is so far away
-pub record Foremost (axes : ℕ) (los his : Place) (cs : List Place) (ks : List ℕ) (i : ℕ) (best : Contender) (least : ℤ) : Type 0 where
-  pub is : least ≡ near los his (place_of axes best.position)
-  pub stands : place_of axes best.position ≡ center cs best.number
-  pub leads : Leader los his cs (take i ks) best.number
-
-module _ (axes : ℕ) (los his : Place) (cs : List Place) (ks : List ℕ) (fit : Fit cs ks) where
-  pub foremost_first : (best : Contender) (least d : ℤ) → least ≡ d → d ≡ near los his (place_of axes best.position) → place_of axes best.position ≡ center cs best.number →
-      best.number ≡ get_or ks 0 0 → Foremost axes los his cs ks 1 best least
-  foremost_first best least d q e s n =
-      let one : take 1 ks ≡ best.number ∷ [] = take_more ks 0 0 fit.some ∙ ap (λ k. k ∷ []) (sym n) in
-      record { is = q ∙ e; stands = s; leads = rw one (leader_first los his cs best.number) }
-
-  -- a turn: the candidate at i, `other`, is at d
-  module _ (i : ℕ) (best other : Contender) (least d : ℤ) (il : i < length ks) (so : Foremost axes los his cs ks i best least)
-      (e : d ≡ near los his (place_of axes other.position)) (s : place_of axes other.position ≡ center cs other.number) (n : other.number ≡ get_or ks i 0) where
-    next : take (i + 1) ks ≡ take i ks ++ other.number ∷ []
-    next = take_more ks i 0 il ∙ ap (λ k. take i ks ++ k ∷ []) (sym n)
-
-    at_least : least ≡ near los his (center cs best.number)
-    at_least = so.is ∙ ap (near los his) so.stands
-
-    at_d : d ≡ near los his (center cs other.number)
-    at_d = e ∙ ap (near los his) s
-
-    pub foremost_takes : (best' : Contender) (least' : ℤ) → best' ≡ other → least' ≡ d → d <ℤ least → Foremost axes los his cs ks (i + 1) best' least'
-    foremost_takes best' least' p q less =
-        subst (λ b. Foremost axes los his cs ks (i + 1) b least') (sym p)
-        (record { is = q ∙ e; stands = s; leads = rw next (leader_takes los his cs (take i ks) best.number other.number so.leads (omega (arith, lin, at_least, at_d))) })
-
-    pub foremost_keeps : (best' : Contender) (least' : ℤ) → best' ≡ best → least' ≡ least → least ≤ℤ d → Foremost axes los his cs ks (i + 1) best' least'
-    foremost_keeps best' least' p q most =
-        subst (λ b. Foremost axes los his cs ks (i + 1) b least') (sym p)
-        (record { is = q ∙ so.is; stands = so.stands; leads = rw next (leader_keeps los his cs (take i ks) best.number other.number so.leads before (omega (arith, lin, at_least, at_d))) })
-      where
-        -- the numbers rise
-        before : best.number < other.number
-        before =
-            let h = so.leads.one_of in
-            let kl : h.0 < i = omega (arith, h.1, length-take i ks) in
-            omega (arith, n, h.2 0, get_or-take i ks h.0 0 kl, fit.rises h.0 i kl il)
-
-  pub foremost_all : (i : ℕ) (best : Contender) (least : ℤ) → length ks ≤ i → Foremost axes los his cs ks i best least → Leader los his cs ks best.number
-  foremost_all i best least l so = subst (λ k. Leader los his cs k best.number) (take_all i ks l) so.leads
 
 -- ---- what is left
 
@@ -141,7 +61,7 @@ prunes_none prunes safe los his cs ks ls sized known h p r has =
     let wide : length (center cs k) ≡ length los = All-get_or (λ c. length c ≡ length los) cs k [] kl sized in
     let wide' : length (center cs l) ≡ length los = All-get_or (λ c. length c ≡ length los) cs l [] ll sized in
     let stays : keeps prunes los his cs l k ≡ true = elim (cases_Bool (prunes los his l (center cs l) k (center cs k))) [
-      | inl t ↦ absurd (unbeaten cs p l ll (wins_beats cs p l k (safe los his l (center cs l) k (center cs k) wide' wide t p r)))
+      | inl t ↦ absurd (unbeaten cs p l ll (safe los his l (center cs l) k (center cs k) wide' wide t p r))
       | inr t ↦ or_right _ _ (not_from_false _ t)
     ] in
     rw h.left (has_kept (keeps prunes los his cs l) ks k stays has)

@@ -2,4 +2,4 @@ pub mod Axes
 pub mod Leading
 pub mod Listed
 pub mod Lists
-mod Safety
+pub mod Safety

@@ -3,11 +3,10 @@ use Rattle.std.proofs.Common.{◌≡◌, ℕ, ◌+◌, ◌<◌, ◌≤◌, min, 
 use Rattle.std.specs.List.{AllByRecursion}
 use Rattle.std.proofs.lemmas.List.Elements.{filter_more}
 use Rattle.std.proofs.ByRecursion.{All-get_or, All-from_get_or, All-map}
-use Rattle.std.proofs.lemmas.List.{length-take, length-take-le, length-map, get_or-take, get_or-map, get_or_default, same_lists, take_more_set, append-nil}
+use Rattle.std.proofs.lemmas.List.{length-take, length-take-le, length-map, get_or-take, get_or_default, same_lists, take_more_set, append-nil}
 use Rattle.numbers.proofs.Sums.{length_mapped, slice_index_mapped}
 use Rattle.points.specs.declared.position.Position.{Position}
 use Rattle.points.specs.Kinds.{position_place}
-use Rattle.grouping.specs.Choice.{center}
 use Rattle.grouping.specs.Groups.{place_of}
 use Rattle.pruning.specs.declared.candidates.Candidates.{Candidates}
 use Rattle.pruning.specs.declared.centers.Centers.{Centers}
@@ -24,11 +23,6 @@ length_positions c = length-take-le c.count c.positions (omega (arith, c.long, c
 pub length_centers : (axes : ℕ) (c : Centers) → length (centers_of axes c) ≡ c.count
 length_centers axes c = length-map (positions_of c) (place_of axes) ∙ length_positions c
 
--- the place of center k
-pub center_at : (axes : ℕ) (c : Centers) (k : ℕ) → k < c.count → center (centers_of axes c) k ≡ place_of axes (position_at c.positions k)
-center_at axes c k h =
-    get_or-map (place_of axes) (positions_of c) k (position_at [] 0) [] (omega (arith, length_positions c)) ∙ ap (place_of axes) (get_or-take c.count c.positions k (position_at [] 0) h)
-
 -- a place has at most four numbers
 pub length_place : (axes : ℕ) (p : Position) → length (place_of axes p) ≡ min axes 4
 length_place axes p = length-take axes (position_place p)
@@ -44,13 +38,15 @@ centers_sized axes c p =
 pub length_listed : (c : Candidates) → length (listed c) ≡ c.count
 length_listed c = length-take-le c.count c.numbers (omega (arith, c.long, c.few))
 
+-- each is the number of a center
+pub listed_known : (c : Candidates) (i : ℕ) → i < length (listed c) → get_or (listed c) i 0 < c.centers.now.count
+listed_known c i l = let h : i < c.count = omega (arith, length_listed c) in rw (get_or-take c.count c.numbers i 0 h) (c.known i h)
+
 -- candidates are fit
 pub candidates_fit : (axes : ℕ) (c : Candidates) → Fit (among axes c) (listed c)
 candidates_fit axes c = record {
   some = omega (arith, length_listed c, c.some);
-  known = All-from_get_or (λ k. k < length (among axes c)) (listed c) 0 (λ i l.
-      let h : i < c.count = omega (arith, length_listed c) in
-      rw (get_or-take c.count c.numbers i 0 h) (omega (arith, length_centers axes c.centers.now, c.known i h)));
+  known = All-from_get_or (λ k. k < length (among axes c)) (listed c) 0 (λ i l. omega (arith, length_centers axes c.centers.now, listed_known c i l));
   rises = λ i j h l.
       let jl : j < c.count = omega (arith, length_listed c) in
       let il : i < c.count = omega arith in
@@ -75,18 +71,17 @@ module _ (axes : ℕ) (centers : Centers) (numbers : List ℕ) (count : ℕ) (lo
       let il : i < count = omega arith in
       omega (arith, fit.rises i j h (omega (arith, length_kept)), get_or-take count numbers i 0 il, get_or-take count numbers j 0 l)
 
--- all numbers below the number of centers are those of all centers
-pub numbered : (axes : ℕ) (centers : Centers) (numbers : List ℕ) (k : ℕ) → length numbers ≡ 32 → k ≡ centers.count → ((i : ℕ) → i < k → get_or numbers i 0 ≡ i) →
-    take centers.count numbers ≡ numbers_of (centers_of axes centers)
-numbered axes centers numbers k long e same =
+-- of an array of its own indices the front is the numbers of all centers
+pub numbered : (axes : ℕ) (centers : Centers) (numbers : List ℕ) → length numbers ≡ 32 → ((i : ℕ) → i < 32 → get_or numbers i 0 ≡ i) → take centers.count numbers ≡ numbers_of (centers_of axes centers)
+numbered axes centers numbers long same =
     let short = length-take-le centers.count numbers (omega (arith, centers.few)) in
     let many = length_centers axes centers in
     same_lists _ _ (omega (arith, length_mapped (λ i c. i) 0 (centers_of axes centers)))
     (λ i d h.
     let il : i < centers.count = omega arith in
     get_or-take centers.count numbers i d il
-    ∙ get_or_default numbers i d 0 (omega arith)
-    ∙ same i (omega arith)
+    ∙ get_or_default numbers i d 0 (omega (arith, centers.few))
+    ∙ same i (omega (arith, centers.few))
     ∙ sym (slice_index_mapped (λ j c. j) [] d i (centers_of axes centers) (omega arith)))
 
 -- ---- a loop that copies what passes a test to the front of another array

@@ -1,6 +1,7 @@
 pub mod Axes
 pub mod Candidates
 pub mod Centers
+pub mod Contenders
 pub mod Examples
 pub mod Faults
 pub mod Positions

@@ -1,13 +1,12 @@
 -- The rules are safe: an impl of a rule cites these as the proof of its law.
 use Rattle.std.proofs.Common.{arith, sym, ◌∙◌, inl, inr}
-use Rattle.std.specs.Prelude.{◌≡◌, ℕ, true, List, [], ◌∷◌, length, ℤ, ◌<ℤ◌, int_le, int_lt, nat_lt}
+use Rattle.std.specs.Prelude.{◌≡◌, ℕ, true, [], ◌∷◌, length, nat_lt}
 use Rattle.std.proofs.lemmas.Int.{by_lt_z, ints}
-use Rattle.std.proofs.lemmas.Bool.{cases_Bool, ltb-true, lt-ltb, cond-true, cond-false, cond_both}
+use Rattle.std.proofs.lemmas.Bool.{cases_Bool, ltb-true, cond-true, cond-false}
 use Rattle.grouping.specs.Boxes.{Inside, corner}
 use Rattle.grouping.specs.Distance.{Place, dist}
-use Rattle.grouping.specs.Choice.{Beats, center}
 use Rattle.grouping.proofs.Boxes.{corner_decides, far_below_near}
-use Rattle.pruning.specs.Rules.{Wins, wins, Safe, min_max_prunes, corner_prunes, CornerPrunes}
+use Rattle.pruning.specs.Rules.{Wins, wins, Safe, min_max_prunes, corner_prunes}
 
 -- the test tells it
 pub wins_true : (p : Place) (i : ℕ) (l : Place) (j : ℕ) (c : Place) → wins p i l j c ≡ true → Wins p i l j c

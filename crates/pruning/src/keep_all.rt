@@ -2,8 +2,8 @@ ghost use Rattle.std.specs.Prelude.{false};
 ghost use Rattle.std.proofs.Common.{rules};
 
 use crate::contender::Contender;
+use crate::region::Region;
 use crate::rule::Rule;
-use points::bounds::Bounds;
 
 // The rule that never prunes.
 #[derive(Clone, Copy)]
@@ -14,13 +14,7 @@ impl Rule for KeepAll {
 
     ghost safe = { Prim.search rules };
 
-    fn prunes(
-        &self,
-        _axes: usize,
-        _bounds: &Bounds,
-        _leader: &Contender,
-        _candidate: &Contender,
-    ) -> bool {
+    fn prunes(&self, _region: &Region, _leader: &Contender, _candidate: &Contender) -> bool {
         false
     }
 }

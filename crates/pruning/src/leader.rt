@@ -1,29 +1,21 @@
 ghost use Rattle.std.specs.Prelude.{◌≡◌};
 ghost use Rattle.grouping.specs.Choice.{center};
-ghost use Rattle.grouping.specs.Groups.{place_of};
-ghost use Rattle.pruning.specs.Positions.{lows, highs};
+ghost use Rattle.pruning.specs.Positions.{lows_of, highs_of};
 ghost use Rattle.pruning.specs.Candidates.{listed, among};
+ghost use Rattle.pruning.specs.Contenders.{stand_of};
 ghost use Rattle.pruning.specs.Pruning.{Leader};
 
 use crate::candidates::Candidates;
 use crate::contender::Contender;
-use crate::distance::near_distance;
-use points::bounds::Bounds;
+use crate::region::Region;
 
-// The candidate that is nearest to the bounds, the lowest number of several, over the first `axes` axes.
-pub fn leader(axes: usize, bounds: &Bounds, candidates: &Candidates) -> Contender
-    ensures leads { Leader (lows axes bounds.now) (highs axes bounds.now) (among axes candidates.now) (listed candidates.now) result.number }
-    ensures stands { place_of axes result.position ≡ center (among axes candidates.now) result.number }
+// The candidate that is nearest to the region, the lowest number of several.
+pub fn leader(region: &Region, candidates: &Candidates) -> Contender
+    ensures leads { Leader (lows_of region.now) (highs_of region.now) (among region.now.axes candidates.now) (listed candidates.now) result.number }
+    ensures stands { stand_of region.now result ≡ center (among region.now.axes candidates.now) result.number }
 {
-    let mut best = candidates.get(0);
-    let mut least = near_distance(axes, bounds, &best.position);
-    for i in 1..candidates.count() {
-        let other = candidates.get(i);
-        let d = near_distance(axes, bounds, &other.position);
-        if d < least {
-            best = other;
-            least = d;
-        }
-    }
-    best
+    let first = (0..candidates.count())
+        .min_by_key(|i| region.near_to(&candidates.get(*i).position))
+        .unwrap();
+    candidates.get(first)
 }

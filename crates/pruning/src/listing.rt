@@ -8,6 +8,7 @@ ghost use Rattle.pruning.specs.Pruning.{numbers_of};
 use crate::candidates::Candidates;
 use crate::centers::Centers;
 use crate::contender::Contender;
+use std::array;
 
 impl<'a> Candidates<'a> {
     // All centers.
@@ -15,15 +16,18 @@ impl<'a> Candidates<'a> {
         ensures among { result.centers.now ≡ centers.now }
         ensures all { (axes : ℕ) → listed result ≡ numbers_of (among axes result) }
     {
-        let mut numbers = [0; 32];
-        for k in 0..centers.count {
-            numbers[k] = k as u8;
-        }
         Candidates {
             centers,
-            numbers,
+            numbers: array::from_fn(|k| k as u8),
             count: centers.count,
         }
+    }
+
+    // Their numbers, in rising order.
+    pub fn numbers(&self) -> &[u8]
+        ensures { result.now ≡ listed self.now }
+    {
+        &self.numbers[..self.count]
     }
 
     // How many there are.
@@ -34,7 +38,19 @@ impl<'a> Candidates<'a> {
         self.count
     }
 
-    // The candidate at place i of the list; past the last, the last.
+    // The center of this number.
+    pub(crate) fn contender(&self, number: u8) -> Contender
+        requires { number < self.now.centers.now.count }
+        ensures number { result.number ≡ number }
+        ensures stands { (axes : ℕ) → place_of axes result.position ≡ center (among axes self.now) result.number }
+    {
+        Contender {
+            number,
+            position: self.centers.positions[number as usize],
+        }
+    }
+
+    // The candidate at place i of the list; past the last, the last. It cannot fail: `numbers` has as many as there are.
     pub fn get(&self, i: usize) -> Contender
         ensures at { i < length (listed self.now) → result.number ≡ slice_index (listed self.now) i }
         ensures past { length (listed self.now) ≤ i → result.number ≡ slice_index (listed self.now) (length (listed self.now) - 1) }
@@ -42,10 +58,6 @@ impl<'a> Candidates<'a> {
         ensures stands { (axes : ℕ) → place_of axes result.position ≡ center (among axes self.now) result.number }
     {
         let i = i.min(self.count - 1);
-        let number = self.numbers[i];
-        Contender {
-            number,
-            position: self.centers.positions[number as usize],
-        }
+        self.contender(self.numbers[i])
     }
 }

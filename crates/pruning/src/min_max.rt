@@ -2,9 +2,8 @@ ghost use Rattle.pruning.specs.Rules.{min_max_prunes};
 ghost use Rattle.pruning.specs.Safety.{min_max_safe};
 
 use crate::contender::Contender;
-use crate::distance::{far_distance, near_distance};
+use crate::region::Region;
 use crate::rule::Rule;
-use points::bounds::Bounds;
 
 // The rule that prunes a candidate that is farther from all of the box than the leader is from any of it.
 #[derive(Clone, Copy)]
@@ -15,14 +14,7 @@ impl Rule for MinMax {
 
     ghost safe = { λ rule. min_max_safe };
 
-    fn prunes(
-        &self,
-        axes: usize,
-        bounds: &Bounds,
-        leader: &Contender,
-        candidate: &Contender,
-    ) -> bool {
-        far_distance(axes, bounds, &leader.position)
-            < near_distance(axes, bounds, &candidate.position)
+    fn prunes(&self, region: &Region, leader: &Contender, candidate: &Contender) -> bool {
+        region.far_from(&leader.position) < region.near_to(&candidate.position)
     }
 }

@@ -13,7 +13,7 @@ impl Centers {
         ensures { positions_of result ≡ first ∷ [] }
     {
         Centers {
-            positions: [first; 32],
+            positions: [first; MOST],
             count: 1,
         }
     }
@@ -43,10 +43,6 @@ impl Centers {
     pub fn position(&self, k: usize) -> Option<Position>
         ensures { MatchOption result (length (positions_of self.now) ≤ k) (λ p. (k < length (positions_of self.now)) × (p ≡ position_at (positions_of self.now) k)) }
     {
-        if k < self.count {
-            Some(self.positions[k])
-        } else {
-            None
-        }
+        self.positions[..self.count].get(k).copied()
     }
 }

@@ -1,72 +1,71 @@
-ghost use Rattle.std.specs.Prelude.{◌≡◌, [], length, MatchOption};
-ghost use Rattle.reader.specs.Fields.{FieldsExactly};
-ghost use Rattle.reader.specs.Steps.{Lent, NameLent, ValueLent, fields_left, line_number, column_number};
+ghost use Rattle.std.specs.Prelude.{◌≡◌, ◌∷◌, ◌<◌, length, IfSome};
+ghost use Rattle.reader.specs.Fields.{FieldsExactly, fields_of};
+ghost use Rattle.reader.specs.Steps.{FieldLent, NameLent, ValueLent, fields_in, fields_left};
 
 use crate::cursor::Reader;
-use crate::scan::find;
-use crate::token::Token;
+use crate::scan::cut_once;
+use crate::token::{Field, Token};
+
+// How many fields a text has: one more than its commas.
+#[tactic(auto, using(crate::proofs::Splits::fields_count))]
+fn count_fields(text: &[u8]) -> usize
+    ensures { result ≡ length (fields_of text.now) }
+{
+    text.iter().filter(|b| **b == b',').count() + 1
+}
+
+// The first field of a text, and the text behind its comma, if it has one.
+#[tactic(auto, using(crate::proofs::Splits::fields_cut, crate::proofs::Splits::fields_last))]
+fn cut_field(text: &[u8]) -> (&[u8], Option<&[u8]>)
+    ensures fields { fields_of text.now ≡ result.0.now ∷ fields_in result.1 }
+    ensures shorter { IfSome result.1 (λ rest. length rest.now < length text.now) }
+{
+    match cut_once(text, b',') {
+        Some((field, rest)) => (field, Some(rest)),
+        None => (text, None),
+    }
+}
 
 impl<'a> Reader<'a> {
-    // How many fields of the current line are left: one more than its commas.
+    // How many fields of the current line are left.
     pub fn fields_left(&self) -> usize
         ensures { result ≡ length (fields_left self.now) }
     {
-        if !self.more {
-            return 0;
-        }
-        let mut n = 1;
-        for b in self.text {
-            if *b == b',' {
-                n += 1;
-            }
-        }
-        n
+        self.text.map_or(0, count_fields)
     }
 
-    // Steps past the next field of the current line, and lends its bytes.
-    fn field(&mut self) -> Option<&'a [u8]>
-        ensures { MatchOption result ((fields_left self.old ≡ []) × (self.new ≡ self.old)) (λ bytes. Lent self.old bytes.now (line_number self.new) (column_number self.new) self.new) }
+    // Steps past the next field of the current line, and lends it. None where no field is left.
+    pub fn field(&mut self) -> Option<Field<'a>>
+        ensures { FieldLent self.old result self.new }
     {
-        if !self.more {
-            return None;
-        }
-        let n = find(self.text, b',');
-        let bytes = &self.text[0..n];
-        if n < self.text.len() {
-            self.text = &self.text[n + 1..];
-        } else {
-            self.more = false;
-        }
+        let (bytes, rest) = cut_field(self.text?);
+        self.text = rest;
         self.column += 1;
-        Some(bytes)
-    }
-
-    // Lends the next field of the current line as a name. None where no field is left.
-    pub fn name(&mut self) -> Option<Token<'a>>
-        ensures { NameLent self.old result self.new }
-    {
-        let bytes = self.field()?;
-        Some(Token::Name {
+        Some(Field {
             bytes,
             line: self.line,
             column: self.column,
         })
+    }
+
+    // Lends the next field of the current line as a name. None where no field is left. Beside `value`: what a field is read as is said by
+    // which of the two is asked.
+    pub fn name(&mut self) -> Option<Token<'a>>
+        ensures { NameLent self.old result self.new }
+    {
+        self.field().map(Token::Name)
     }
 
     // Lends the next field of the current line as a value. None where no field is left.
     pub fn value(&mut self) -> Option<Token<'a>>
         ensures { ValueLent self.old result self.new }
     {
-        let bytes = self.field()?;
-        Some(Token::Value {
-            bytes,
-            line: self.line,
-            column: self.column,
-        })
+        self.field().map(Token::Value)
     }
 }
 
 // A text is its fields with commas between them, and has no other fields.
+#[tactic(auto, using(crate::proofs::Splits::fields_exactly))]
 pub fn field_laws()
     ensures { FieldsExactly }
 {}

@@ -2,12 +2,11 @@ ghost use Rattle.std.specs.Prelude.{◌≡◌, [], Decides};
 ghost use Rattle.reader.specs.Steps.{LineStep, next_bytes, fields_left, line_number, column_number};
 
 use crate::cursor::Reader;
-use crate::scan::find;
+use crate::scan::cut_once;
 
-// What stands where the next line begins: a line with its end, bytes without a line end, or nothing.
-#[derive(Clone, Copy)]
-pub enum NextLine {
-    Ended,
+// Why no line with its end comes next: bytes without a line end are left, or nothing is.
+#[derive(Clone, Copy, Debug, PartialEq, Eq)]
+pub enum NoLine {
     Unended,
     Missing,
 }
@@ -22,8 +21,7 @@ impl<'a> Reader<'a> {
     {
         Reader {
             rest: file,
-            text: &file[0..0],
-            more: false,
+            text: None,
             line: 0,
             column: 0,
         }
@@ -37,21 +35,17 @@ impl<'a> Reader<'a> {
     }
 
     // Steps to the next line, past the fields of this one that are left. Where no line with its end is left, stays.
-    pub fn next_line(&mut self) -> NextLine
+    pub fn next_line(&mut self) -> Result<(), NoLine>
         ensures { LineStep self.old result self.new }
     {
-        if self.rest.is_empty() {
-            return NextLine::Missing;
+        if self.at_end() {
+            return Err(NoLine::Missing);
         }
-        let n = find(self.rest, b'\n');
-        if n == self.rest.len() {
-            return NextLine::Unended;
-        }
-        self.text = &self.rest[0..n];
-        self.rest = &self.rest[n + 1..];
-        self.more = true;
+        let (text, rest) = cut_once(self.rest, b'\n').ok_or(NoLine::Unended)?;
+        self.text = Some(text);
+        self.rest = rest;
         self.line += 1;
         self.column = 0;
-        NextLine::Ended
+        Ok(())
     }
 }

@@ -1,13 +1,9 @@
-ghost use Rattle.reader.specs.Fields.{Finds};
+ghost use Rattle.reader.specs.Fields.{CutOnce};
 
-// The index of the first `b` of `bytes`, or their number where there is none.
-pub(crate) fn find(bytes: &[u8], b: u8) -> usize
-    ensures { Finds bytes.now b result }
+// What stands before the first `b` of `bytes`, and what stands behind it. None where no byte is `b`.
+pub(crate) fn cut_once(bytes: &[u8], b: u8) -> Option<(&[u8], &[u8])>
+    ensures { CutOnce bytes.now b result }
 {
-    for (i, x) in bytes.iter().enumerate() {
-        if *x == b {
-            return i;
-        }
-    }
-    bytes.len()
+    let n = bytes.iter().position(|x| *x == b)?;
+    Some((&bytes[..n], &bytes[n + 1..]))
 }

@@ -1,14 +1,14 @@
 // A part of the file, with its place: the line, and its number among the parts of that line, both from 1.
 #[derive(Clone, Copy)]
+pub struct Field<'a> {
+    pub bytes: &'a [u8],
+    pub line: usize,
+    pub column: usize,
+}
+
+// A field as what the format takes it for: a name in the first line, a value in the others.
+#[derive(Clone, Copy)]
 pub enum Token<'a> {
-    Name {
-        bytes: &'a [u8],
-        line: usize,
-        column: usize,
-    },
-    Value {
-        bytes: &'a [u8],
-        line: usize,
-        column: usize,
-    },
+    Name(Field<'a>),
+    Value(Field<'a>),
 }

@@ -1,6 +1,5 @@
 -- The line of names, field by field.
-use Rattle.std.proofs.Common.{◌≡◌, ℕ, zero, suc, ◌+◌, ◌-◌, ◌<◌, ◌≤◌, cond, eqb, List, [], ◌∷◌, length, get_or, take, set, None, sym, refl, ap, ◌∙◌, subst, inl, inr, arith, get_or-set_other, get_or-set_same, below_more}
-use native.Mathlib.Nat.{sub-zero}
+use Rattle.std.proofs.Common.{◌≡◌, ℕ, zero, suc, ◌+◌, ◌<◌, ◌≤◌, cond, eqb, List, [], ◌∷◌, length, get_or, take, set, None, sym, refl, ap, ◌∙◌, subst, inl, inr, arith, get_or-set_other, get_or-set_same, below_more}
 use Rattle.std.proofs.lemmas.List.{ext_get_or, length-map, get_or-map, get_or-take, length-take-le}
 use Rattle.std.specs.List.{ContainsAt as Has}
 use Rattle.std.proofs.ByRecursion.{has_get_or}
@@ -81,9 +80,6 @@ pub record NamedSofar (kind : FileKind) (fields : List (List ℕ)) (k : ℕ) (at
   pub names : (i : ℕ) → i < k → get_or fields i [] ≡ name_at kind (get_or at i 0)
   pub once : (i j : ℕ) → i < j → j < k → get_or at i 0 ≡ get_or at j 0 → ⊥
 
-pub none_named : (kind : FileKind) (fields : List (List ℕ)) (at : List ℕ) → NamedSofar kind fields 0 at
-none_named kind fields at = record { known = λ i l. absurd (omega arith); names = λ i l. absurd (omega arith); once = λ i j l m. absurd (omega arith) }
-
 -- the columns before k stay where the k-th is written
 before : (at : List ℕ) (k c i : ℕ) → i < k → get_or (set at k c) i 0 ≡ get_or at i 0
 before at k c i l = get_or-set_other at k i c 0 (λ e. omega arith)
@@ -124,36 +120,27 @@ module _ (kind : FileKind) (fields : List (List ℕ)) (order : List ℕ) (each :
   pub found_there : (i c : ℕ) → i < width kind → c < width kind → get_or fields i [] ≡ name_at kind c → c ≡ get_or order i 0
   found_there i c l m e = same_column kind c (get_or order i 0) m (each.known i l) (sym e ∙ name_there i l)
 
-  -- a field that is the name of no column of the kind
-  unknown : (i : ℕ) → i < width kind → ((c : ℕ) → c < width kind → get_or fields i [] ≡ name_at kind c → ⊥) → ⊥
-  unknown i l none = none (get_or order i 0) (each.known i l) (name_there i l)
-
   -- a column that stands twice
   twice : (i j c : ℕ) → i < j → j < width kind → c < width kind → get_or fields i [] ≡ name_at kind c → get_or fields j [] ≡ name_at kind c → ⊥
   twice i j c less l m p q = each.once i j less l (sym (found_there i c (omega arith) m p) ∙ found_there j c l m q)
 
--- what stands among the first k columns, as the checker reads `at[0..k]`
-stood : (at : List ℕ) (k c : ℕ) → k ≤ length at → Has (take (k - 0) at) c → (i : ℕ) × (i < k) × (get_or at i 0 ≡ c)
+-- what stands among the first k columns
+stood : (at : List ℕ) (k c : ℕ) → k ≤ length at → Has (take k at) c → (i : ℕ) × (i < k) × (get_or at i 0 ≡ c)
 stood at k c l h =
-    let m : h.0 < k = omega (arith, h.1, length-take-le k at l, ap (λ n. length (take n at)) (sub-zero k)) in
-    (h.0, m, sym (get_or-take k at h.0 0 m) ∙ ap (λ n. get_or (take n at) h.0 0) (sym (sub-zero k)) ∙ h.2 0)
+    let m : h.0 < k = omega (arith, h.1, length-take-le k at l) in
+    (h.0, m, sym (get_or-take k at h.0 0 m) ∙ h.2 0)
 
-pub stands_among : (at : List ℕ) (k c i : ℕ) → k ≤ length at → i < k → get_or at i 0 ≡ c → Has (take (k - 0) at) c
-stands_among at k c i l m e =
-    subst (λ n. Has (take n at) c) (sym (sub-zero k)) (subst (Has (take k at)) (get_or-take k at i 0 m ∙ e) (has_get_or (take k at) i 0 (omega (arith, length-take-le k at l))))
+pub stands_among : (at : List ℕ) (k c i : ℕ) → k ≤ length at → i < k → get_or at i 0 ≡ c → Has (take k at) c
+stands_among at k c i l m e = subst (Has (take k at)) (get_or-take k at i 0 m ∙ e) (has_get_or (take k at) i 0 (omega (arith, length-take-le k at l)))
 
 -- a field, by its place k, that shows the fields to be no line of names
 module _ (kind : FileKind) (fields : List (List ℕ)) (k : ℕ) (l : k < width kind) where
-  -- a field that is no name
-  pub no_name : (field : List ℕ) → get_or fields k [] ≡ field → ((n : Name) → field ≡ text_of n → ⊥) → NamesRead kind fields None
-  no_name field is none order each e = unknown kind fields order each e k l (λ c m same. none (column_at kind c).name (sym is ∙ same))
-
-  -- a name of no column of the kind
-  pub no_column : (n : Name) → get_or fields k [] ≡ text_of n → ((c : ℕ) → c < width kind → (column_at kind c).name ≡ n → ⊥) → NamesRead kind fields None
-  no_column n is none order each e = unknown kind fields order each e k l (λ c m same. none c m (same_name (column_at kind c).name n (sym same ∙ is)))
+  -- a field that is the name of no column
+  pub no_column : (field : List ℕ) → get_or fields k [] ≡ field → ((c : ℕ) → c < width kind → field ≡ name_at kind c → ⊥) → NamesRead kind fields None
+  no_column field is none order each e = none (get_or order k 0) (each.known k l) (sym is ∙ name_there kind fields order each e k l)
 
   -- the name of a column that stands among the first k
-  pub name_twice : (at : List ℕ) (c : ℕ) → NamedSofar kind fields k at → k < length at → c < width kind → get_or fields k [] ≡ name_at kind c → Has (take (k - 0) at) c → NamesRead kind fields None
+  pub name_twice : (at : List ℕ) (c : ℕ) → NamedSofar kind fields k at → k < length at → c < width kind → get_or fields k [] ≡ name_at kind c → Has (take k at) c → NamesRead kind fields None
   name_twice at c h long m is has order each e =
       let was = stood at k c (omega arith) has in
       twice kind fields order each e was.0 k c was.1 l m (h.names was.0 was.1 ∙ ap (name_at kind) was.2) is

@@ -1,5 +1,5 @@
 -- The fields of a line of values, from the left.
-use Rattle.std.proofs.Common.{◌≡◌, ℕ, ◌+◌, ◌<◌, List, [], length, get_or, set, ℤ, pos, negsuc, Ok, Err, Result, sym, ap, ◌∙◌, subst, arith, get_or-set_other, get_or-set_same, w32, SFits, to_z, of_z, below_more}
+use Rattle.std.proofs.Common.{◌≡◌, ℕ, ◌+◌, ◌<◌, List, [], length, get_or, set, ℤ, pos, negsuc, Err, sym, ap, ◌∙◌, subst, arith, get_or-set_other, get_or-set_same, w32, SFits, to_z, of_z, below_more}
 use Rattle.std.specs.Fmt.{signed_decimal}
 use Rattle.std.proofs.lemmas.List.{ext_get_or, get_or_default, length-map, get_or-map, get_or-take, length-take-le}
 use Rattle.std.proofs.lemmas.Int.{to_z-of_z}
@@ -77,16 +77,11 @@ order_once o =
 pub range_read : (kind : FileKind) (columns : List Column) (c d : ℕ) (other : Column) → columns ≡ columns_of kind → d ≡ c → c < width kind → (get_or columns d other).range ≡ range_at kind c
 range_read kind columns c d other e same l = (λ i. (get_or (e i) (same i) other).range) ∙ ap (λ x. x.range) (get_or_default (columns_of kind) c other (full Gap) l)
 
-pub cell_right : (range range' : ValueRange) (bytes field : List ℕ) (place : ℕ) (r : Result ℤ RowFault) (z : ℤ) → CellReadAt range bytes place r → r ≡ Ok z → range ≡ range' → field ≡ bytes → Spells field z × Within range' z
-cell_right range range' bytes field place r z h e same is =
-    let at : CellReadAt range bytes place (Ok z) = subst (CellReadAt range bytes place) e h in
-    (subst (λ t. Spells t z) (sym is) at.0, subst (λ x. Within x z) same at.1)
+pub cell_right : (range range' : ValueRange) (bytes field : List ℕ) (z : ℤ) → Spells bytes z × Within range z → range ≡ range' → field ≡ bytes → Spells field z × Within range' z
+cell_right range range' bytes field z h same is = (subst (λ t. Spells t z) (sym is) h.0, subst (λ x. Within x z) same h.1)
 
 -- the field of place k is the first that is no value of its column
-first_wrong : (kind : FileKind) (order : List ℕ) (before : ℕ) (fields : List (List ℕ)) (k : ℕ) (range : ValueRange) (bytes : List ℕ) (place : ℕ) (f : RowFault) → CellReadAt range bytes place (Err f) → range ≡ range_at kind (get_or order k 0) → get_or fields k [] ≡ bytes → place ≡ before + k + 1 → k < width kind → length fields ≡ width kind → ((i : ℕ) → i < k → Right kind (get_or order i 0) (get_or fields i [])) → LineFaulty kind order before fields f
-first_wrong kind order before fields k range bytes place Unended h same is at l long right = absurd h
-first_wrong kind order before fields k range bytes place Count h same is at l long right = absurd h
-first_wrong kind order before fields k range bytes place (Value column fault) h same is at l long right = (k, h.0 ∙ at, l, long, right, subst (λ x. CellFaulty x (get_or fields k []) fault) same (subst (λ t. CellFaulty range t fault) (sym is) h.1))
-
-pub cell_wrong : (kind : FileKind) (order : List ℕ) (before : ℕ) (fields : List (List ℕ)) (k : ℕ) (range : ValueRange) (bytes : List ℕ) (place : ℕ) (r : Result ℤ RowFault) (f : RowFault) → CellReadAt range bytes place r → r ≡ Err f → range ≡ range_at kind (get_or order k 0) → get_or fields k [] ≡ bytes → place ≡ before + k + 1 → k < width kind → length fields ≡ width kind → ((i : ℕ) → i < k → Right kind (get_or order i 0) (get_or fields i [])) → LineFaulty kind order before fields f
-cell_wrong kind order before fields k range bytes place r f h e = first_wrong kind order before fields k range bytes place f (subst (CellReadAt range bytes place) e h)
+pub cell_wrong : (kind : FileKind) (order : List ℕ) (before : ℕ) (fields : List (List ℕ)) (k : ℕ) (range : ValueRange) (bytes : List ℕ) (place : ℕ) (f : RowFault) → CellReadAt range bytes place (Err f) → range ≡ range_at kind (get_or order k 0) → get_or fields k [] ≡ bytes → place ≡ before + k + 1 → k < width kind → length fields ≡ width kind → ((i : ℕ) → i < k → Right kind (get_or order i 0) (get_or fields i [])) → LineFaulty kind order before fields f
+cell_wrong kind order before fields k range bytes place Unended h same is at l long right = absurd h
+cell_wrong kind order before fields k range bytes place Count h same is at l long right = absurd h
+cell_wrong kind order before fields k range bytes place (Value column fault) h same is at l long right = (k, h.0 ∙ at, l, long, right, subst (λ x. CellFaulty x (get_or fields k []) fault) same (subst (λ t. CellFaulty range t fault) (sym is) h.1))

@@ -1,8 +1,10 @@
 -- How the line of names and the lines of values are written, field by field, and which fault of a line comes first.
-use Rattle.std.specs.Prelude.{◌≡◌, ℕ, ◌+◌, ◌<◌, List, [], map, length, take, ℤ, pos, Some, None, Ok, Err, Option, Result, ◌≢◌, slice_index, slice_index_or}
+use Rattle.std.specs.Prelude.{◌≡◌, ℕ, ◌+◌, ◌<◌, List, [], ◌∷◌, map, length, take, ℤ, pos, Some, None, Ok, Err, MatchOption, Option, Result, ◌≢◌, slice_index, slice_index_or}
 use Rattle.std.specs.Fmt.{signed_decimal}
 use Rattle.value.specs.Ranges.{Within}
 use Rattle.value.specs.Spelling.{Spells}
+use Rattle.reader.specs.declared.cursor.Reader.{Reader}
+use Rattle.reader.specs.Steps.{fields_left, line_number, next_bytes}
 use Rattle.faults.specs.declared.row.RowFault.{RowFault}
 use Rattle.faults.specs.declared.row.RowFault.TheVariants.{Unended, Count, Value}
 use Rattle.rows.specs.declared.kind.FileKind.{FileKind}
@@ -37,6 +39,14 @@ pub record Fits (kind : FileKind) (row : List ℤ) : Type 0 where
 abbrev pub NamesRead : FileKind → List (List ℕ) → Option Order → Type 0
 NamesRead kind fields (Some o) = (o.kind ≡ kind) × (fields ≡ names_in kind (columns_in o))
 NamesRead kind fields None = (order : List ℕ) → EachOnce (width kind) order → fields ≢ names_in kind order
+
+-- the next field that r has left is the name of the column, or of none; s stands behind it
+pub record NameRead (kind : FileKind) (r s : Reader) (column : Option ℕ) : Type 0 where
+  pub field : List ℕ
+  pub first : fields_left r ≡ field ∷ fields_left s
+  pub named : MatchOption column ((c : ℕ) → c < width kind → field ≢ name_at kind c) (λ c. (c < width kind) × (field ≡ name_at kind c))
+  pub rest : next_bytes s ≡ next_bytes r
+  pub line : line_number s ≡ line_number r
 
 -- the field is a value of the column
 abbrev pub Right : FileKind → ℕ → List ℕ → Type 0

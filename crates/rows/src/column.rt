@@ -2,6 +2,7 @@ ghost use Rattle.rows.specs.Cells.{CellRead, CellReadAt};
 
 use crate::name::Name;
 use faults::row::RowFault;
+use reader::token::Field;
 use value::fault::ValueFault;
 use value::placed::place_at;
 use value::range::ValueRange;
@@ -23,9 +24,9 @@ impl Column {
     }
 
     // The same, where a fault has the place of the field in its line.
-    pub(crate) fn read_at(&self, field: &[u8], place: usize) -> Result<i32, RowFault>
-        ensures { CellReadAt self.now.range field.now place result }
+    pub(crate) fn read_at(&self, field: Field<'_>) -> Result<i32, RowFault>
+        ensures { CellReadAt self.now.range field.entry.bytes.now field.entry.column result }
     {
-        Ok(place_at(self.read(field), place)?)
+        Ok(place_at(self.read(field.bytes), field.column)?)
     }
 }

@@ -21,6 +21,7 @@ pub const FULL: ValueRange = ValueRange {
     greatest: 32767,
 };
 
+// Each range is written out: the value of a static calls no function.
 static DRIVE: [Column; 4] = [
     Column {
         name: Name::Lag,
@@ -82,9 +83,6 @@ impl FileKind {
     pub fn is_centers(self) -> bool
         ensures { result ≡ is_centers self }
     {
-        match self {
-            FileKind::DriveRecords | FileKind::TelegramRecords => false,
-            FileKind::DriveCenters | FileKind::TelegramCenters => true,
-        }
+        matches!(self, FileKind::DriveCenters | FileKind::TelegramCenters)
     }
 }

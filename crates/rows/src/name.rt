@@ -15,7 +15,7 @@ pub enum Name {
 }
 
 impl Name {
-    // The name that the bytes spell, if any.
+    // The name that the bytes spell, if any. No `TryFrom`: there is no fault to tell of bytes that spell none.
     pub fn read(bytes: &[u8]) -> Option<Name>
         ensures { MatchOption result ((n : Name) → bytes.now ≢ text_of n) (λ n. bytes.now ≡ text_of n) }
     {
@@ -31,7 +31,7 @@ impl Name {
         }
     }
 
-    // The text that spells the name.
+    // The text that spells the name. No `Display`: it is lent, and not only printed.
     pub fn text(self) -> &'static str
         ensures { result.now ≡ text_of self }
     {

@@ -7,6 +7,7 @@ use crate::kind::FileKind;
 #[derive(Clone, Copy)]
 pub struct Order {
     pub(crate) kind: FileKind,
+    // No heap: there are places for the most columns that a kind has.
     pub(crate) at: [usize; 4],
     ghost long: { length at ≡ 4 },
     ghost known: { (k : ℕ) → k < width kind → slice_index at k < width kind },

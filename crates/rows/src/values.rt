@@ -5,9 +5,18 @@ ghost use Rattle.rows.specs.Lines.{ValuesRead, columns_in};
 use crate::order::Order;
 use faults::row::RowFault;
 use reader::cursor::Reader;
-use reader::token::Token;
 
-// The values of a line, column by column: the number of its fields is tested first, then they are read from the left.
+impl Order {
+    // The columns in the order of the fields.
+    fn columns(&self) -> &[usize]
+        ensures { result.now ≡ columns_in self.now }
+    {
+        &self.at[..self.kind.columns().len()]
+    }
+}
+
+// The values of a line, column by column: the number of its fields is tested first, then they are read from the left. The order is not the
+// reader's: it serves every line, and stays as it is.
 pub fn read_values(reader: &mut Reader<'_>, order: &Order) -> Result<[i32; 4], RowFault>
     ensures values { ValuesRead order.now.kind (columns_in order.now) (column_number reader.old) (fields_left reader.old) result }
     ensures rest { next_bytes reader.new ≡ next_bytes reader.old }
@@ -18,15 +27,9 @@ pub fn read_values(reader: &mut Reader<'_>, order: &Order) -> Result<[i32; 4], R
         return Err(RowFault::Count);
     }
     let mut values = [0; 4];
-    for k in 0..columns.len() {
-        let Some(token) = reader.value() else {
-            unreachable()
-        };
-        let Token::Value { bytes, column, .. } = token else {
-            unreachable()
-        };
-        let c = order.at[k];
-        values[c] = columns[c].read_at(bytes, column)?;
+    for c in order.columns() {
+        let field = reader.field().unwrap();
+        values[*c] = columns[*c].read_at(field)?;
     }
     Ok(values)
 }

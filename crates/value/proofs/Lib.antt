@@ -1,3 +1,2 @@
 pub mod Shapes
 pub mod Laws
-pub mod Places

@@ -1,17 +1,17 @@
 -- What the decimal text of a number looks like, and what digits write.
-use Rattle.std.proofs.Common.{◌≡◌, ℕ, zero, suc, ◌-◌, ◌^◌, ◌<◌, ◌≤◌, List, [], ◌∷◌, length, get_or, take, drop, ℤ, pos, negsuc, neg_ℤ, decimal, sym, refl, ap, ◌∙◌, subst, ⊎_elim, arith}
-use Rattle.std.specs.Str.Parse.{AllDigits, digits_value}
+use Rattle.std.proofs.Common.{◌≡◌, ℕ, zero, suc, ◌^◌, ◌<◌, ◌≤◌, List, [], ◌∷◌, length, get_or, drop, ℤ, pos, negsuc, decimal, None, Ok, Err, Result, sym, ap, ◌∙◌, subst, ⊎_elim, arith}
+use Rattle.std.specs.Str.Parse.{AllDigits, ParsesUnsigned, digits_value}
 use Rattle.std.specs.Int.{IsInRange}
-use Rattle.std.specs.Char.{digit_value}
+use Rattle.std.specs.Str.{IsUtf8}
+use Rattle.std.specs.Option.{MatchOption}
+use Rattle.std.specs.Result.{MatchResult, result_ok}
 use Rattle.std.proofs.str.Laws.{order}
-use Rattle.std.proofs.lemmas.List.{length-take, ext_get_or}
-use Rattle.std.proofs.lemmas.Str.Parse.{IsNumeralModel, digits_value_short, numerals_by_value, tells_digits, digit_at}
-use Rattle.std.proofs.lemmas.Fmt.{decimal_digit, decimal_nonempty, first_decimal, digits_decimal, decimal-digits_value}
+use Rattle.std.proofs.lemmas.List.{ext_get_or}
+use Rattle.std.proofs.lemmas.Option.{none-some}
+use Rattle.std.proofs.lemmas.Str.Parse.{IsNumeralModel, digits_value_short, numerals_by_value, parse_plain, tells_digits, digit_at}
+use Rattle.std.proofs.lemmas.Fmt.{IsAscii-from_digits, decimal_digit, decimal_nonempty, first_decimal, digits_decimal, decimal-digits_value}
+use Rattle.std.proofs.lemmas.Str.{IsUtf8-from_ascii}
 use Rattle.value.specs.Spelling.{Writes, Spells}
-
-first_drop : (bs : List ℕ) → 0 < length bs → bs ≡ get_or bs 0 0 ∷ drop 1 bs
-first_drop [] p = absurd (omega arith)
-first_drop (b ∷ bs) p = refl
 
 pub own : IsNumeralModel (AllDigits 10) (digits_value 10)
 own = numerals_by_value _ tells_digits
@@ -29,13 +29,6 @@ first_of ds n w = let small = w.small in subst (λ l. 48 < get_or l 0 0) (sym w.
 pub digit_of : (ds : List ℕ) (n : ℕ) → Writes ds n → (i : ℕ) → i < length ds → IsInRange 48 57 (get_or ds i 0)
 digit_of ds n w i h = digit_at ds i (digits_of ds n w) h
 
-pub digit_is : (c : ℕ) → 48 ≤ c → c ≤ 57 → digit_value c ≡ c - 48
-digit_is c l h = grind arith
-
--- the number of the first i digits
-pub under : (ds : List ℕ) (i : ℕ) → AllDigits 10 (take i ds) → i < length ds → length ds ≤ 6 → digits_value 10 (take i ds) < 10 ^ 5
-under ds i h l s = digits_value_short own (take i ds) 5 h (simp length-take (omega arith))
-
 -- digits whose first is not 0 write a number
 pub written : (ds : List ℕ) → AllDigits 10 ds → 0 < length ds → length ds ≤ 6 → 48 < get_or ds 0 0 → Writes ds (digits_value 10 ds)
 written ds h some short first =
@@ -47,18 +40,25 @@ written ds h some short first =
       small = small;
     }
 
--- the three shapes of a value
+-- what the parse of a text says of the number that it writes, where the text begins with a digit other than 0
+pub parsed : {E : Type 0} (ds : List ℕ) (r : Result ℕ E) → ParsesUnsigned 32 10 ds r → length ds ≤ 6 → 48 < get_or ds 0 0 → get_or ds 0 0 ≤ 57 → MatchOption (result_ok r) ((n : ℕ) → Writes ds n → ⊥) (λ n. Writes ds n)
+parsed {E} ds (Ok n) h short low high = let p = parse_plain own {E = E} 32 ds (Ok n) h (λ e. omega arith) in subst (Writes ds) (sym p.1) (written ds p.0.0 p.0.1 short low)
+parsed {E} ds (Err e) h short low high = λ n w. let p = parse_plain own {E = E} 32 ds (Err e) h (λ e. omega arith) in p (digits_of ds n w, some_of ds n w, omega (arith, digits_value_short own ds 6 (digits_of ds n w) short))
+
+-- the digits of a number are text
+pub text_of : (ds : List ℕ) (n : ℕ) → Writes ds n → IsUtf8 ds
+text_of ds n w = IsUtf8-from_ascii ds (IsAscii-from_digits ds (digits_of ds n w))
+
+-- nothing that is no text is digits
+pub not_text : {A E : Type 0} (P : A → Type 0) (Q : E → Type 0) (bs : List ℕ) (r : Result A E) → MatchResult r P (λ e. (IsUtf8 bs → ⊥) × Q e) → None ≡ result_ok r → IsUtf8 bs → ⊥
+not_text P Q bs (Ok s) h e = absurd (none-some s e)
+not_text P Q bs (Err e) h _ = h.0
+
+-- the byte 0 spells the value 0
 pub zero_spells : (bs : List ℕ) → get_or bs 0 0 ≡ 48 → length bs ≡ 1 → Spells bs (pos 0)
 zero_spells bs e l = record { text = ext_get_or 0 bs (48 ∷ []) l (λ i h. let z : i ≡ 0 = omega arith in ap (λ k. get_or bs k 0) z ∙ e ∙ sym (ap (λ k. get_or (48 ∷ []) k 0) z)) ∙ sym (decimal_digit 0 (omega arith)); short = omega arith; small = omega arith }
 
-pub plain_spells : (bs : List ℕ) (n : ℕ) → length bs ≤ 6 → Writes bs n → Spells bs (pos n)
-plain_spells bs n s w = record { text = w.text; short = s; small = w.small }
-
-pub minus_spells : (bs : List ℕ) (n : ℕ) → get_or bs 0 0 ≡ 45 → 0 < length bs → length bs ≤ 6 → Writes (drop 1 bs) n → Spells bs (neg_ℤ (pos n))
-minus_spells bs zero e p s w = absurd (omega (arith, w.some))
-minus_spells bs (suc n) e p s w = let small = w.small in record { text = first_drop bs p ∙ (λ i. e i ∷ w.text i); short = s; small = omega arith }
-
--- bytes of none of the shapes spell nothing
+-- bytes that are neither 0, nor a minus and a number, nor a number, spell no value
 pub no_shape : (bs : List ℕ) → (get_or bs 0 0 ≡ 48 → length bs ≡ 1 → ⊥) → (0 < length bs → get_or bs 0 0 ≡ 45 → (n : ℕ) → Writes (drop 1 bs) n → ⊥) → ((n : ℕ) → Writes bs n → ⊥) → (z : ℤ) → Spells bs z → ⊥
 no_shape bs a b d (pos zero) h = a (ap (λ l. get_or l 0 0) (h.text ∙ decimal_digit 0 (omega arith))) (ap length (h.text ∙ decimal_digit 0 (omega arith)))
 no_shape bs a b d (pos (suc n)) h = d (suc n) (record { text = h.text; some = omega arith; small = h.small })

@@ -21,9 +21,6 @@ pub record Writes (digits : List ℕ) (n : ℕ) : Type 0 where
   pub some : 0 < n
   pub small : n < 10 ^ 6
 
-abbrev pub MagnitudeExactly : List ℕ → Result ℕ ValueFault → Type 0
-MagnitudeExactly digits r = MatchResult r (λ n. Writes digits n) (λ f. (f ≡ NotAValue) × ((n : ℕ) → Writes digits n → ⊥))
-
 -- bytes spell at most one value, and a value has at most one spelling
 abbrev pub SpellingUnique : Type 0
 SpellingUnique =

@@ -14,19 +14,16 @@ pub enum Layer {
 #[derive(Clone, Copy, Debug, PartialEq, Eq)]
 pub enum ValueFault {
     // The bytes spell no value.
-    NotAValue,
+    NotAValue = 23,
     // The value lies outside the range of its column.
-    OutOfRange,
+    OutOfRange = 24,
 }
 
 impl ValueFault {
-    // The number under which the fault is reported.
+    // The number under which the fault is reported. No trait over the faults: each would write its own body.
     pub fn number(&self) -> u32
         ensures { result ≡ number_of self.now }
     {
-        match self {
-            ValueFault::NotAValue => 23,
-            ValueFault::OutOfRange => 24,
-        }
+        *self as u32
     }
 }

@@ -16,13 +16,14 @@ impl ValueRange {
     pub fn admit(&self, value: i32) -> Result<i32, ValueFault>
         ensures { MatchResult result (λ z. (z ≡ value) × Within self.now value) (λ f. (f ≡ OutOfRange) × (Within self.now value → ⊥)) }
     {
-        if value < self.least || value > self.greatest {
-            return Err(ValueFault::OutOfRange);
+        if (self.least..=self.greatest).contains(&value) {
+            Ok(value)
+        } else {
+            Err(ValueFault::OutOfRange)
         }
-        Ok(value)
     }
 
-    // The value of the range that is nearest to `value`.
+    // The value of the range that is nearest to `value`. No `clamp`: it asks for bounds in order.
     pub fn nearest(&self, value: i32) -> i32
         ensures { result ≡ nearest_in self.now value }
     {

@@ -1,21 +1,25 @@
 -- What groups cost, as the code computes it in 64 bits.
-use Rattle.std.proofs.Common.{◌≡◌, ℕ, suc, ◌+◌, ◌<◌, List, [], ◌∷◌, ◌++◌, length, get_or, take, ℤ, pos, ◌+ℤ◌, ◌-ℤ◌, ◌*ℤ◌, sym, refl, ap, ◌∙◌, subst, arith, w64}
+use Rattle.std.proofs.Common.{◌≡◌, ℕ, suc, ◌+◌, ◌<◌, ◌≤◌, List, [], ◌∷◌, ◌++◌, length, get_or, take, ℤ, pos, ◌+ℤ◌, ◌-ℤ◌, ◌*ℤ◌, sym, refl, ap, ◌∙◌, subst, arith, w64, SFits, to_z, of_z}
+use Rattle.std.specs.declared.ops.Range.{Range}
 use Rattle.std.specs.Int.{int_wrap}
+use Rattle.std.specs.Iterator.{Drains}
+use Rattle.std.specs.List.{FoldsTo}
+use Rattle.std.proofs.iter.Yields.{nat_range_steps}
 use Rattle.std.proofs.lemmas.List.{take_more, length-take-le}
-use Rattle.std.proofs.lemmas.Int.{int_wrap-add_left, int_wrap-add_right, int_wrap-sub_right, int_wrap-mul_right, int_wrap-add_same}
+use Rattle.std.proofs.lemmas.Int.{to_z-of_z, SFits-int_wrap, int_wrap-add_left, int_wrap-add_right, int_wrap-sub_right, int_wrap-add_same}
 use Rattle.numbers.specs.Sums.{summed_from}
 use Rattle.numbers.proofs.Quote.{solve, quotes}
 use Rattle.numbers.proofs.Ring.{lin}
 use Rattle.grouping.specs.Rounding.{axis_cost}
 use Rattle.walk.proofs.Adding.{wrapped_twice}
+use Rattle.walk.proofs.Folding.{folded}
+use denote.Param.Members.{Mut, Called}
 
 -- an axis: w (x x) - s (x + x)
-pub axis_wrapped : (s w x xx m two n r : ℤ) → xx ≡ int_wrap w64 (x *ℤ x) → m ≡ int_wrap w64 (w *ℤ xx) → two ≡ int_wrap w64 (x +ℤ x) → n ≡ int_wrap w64 (s *ℤ two) → r ≡ int_wrap w64 (m -ℤ n) → r ≡ int_wrap w64 (axis_cost s w x)
-axis_wrapped s w x xx m two n r a b c d e =
-    let m' : m ≡ int_wrap w64 (w *ℤ (x *ℤ x)) = b ∙ ap (λ z. int_wrap w64 (w *ℤ z)) a ∙ int_wrap-mul_right w64 w (x *ℤ x) in
-    let n' : n ≡ int_wrap w64 (s *ℤ (x +ℤ x)) = d ∙ ap (λ z. int_wrap w64 (s *ℤ z)) c ∙ int_wrap-mul_right w64 s (x +ℤ x) in
+pub axis_wrapped : (s w x : ℤ) → int_wrap w64 (int_wrap w64 (w *ℤ (x *ℤ x)) -ℤ int_wrap w64 (s *ℤ (x +ℤ x))) ≡ int_wrap w64 (axis_cost s w x)
+axis_wrapped s w x =
     let i : w *ℤ (x *ℤ x) -ℤ s *ℤ (x +ℤ x) ≡ axis_cost s w x = solve (w ∷ x ∷ s ∷ []) (search quotes depth 30 fits 20000) tt in
-    e ∙ ap (λ z. int_wrap w64 (m -ℤ z)) n' ∙ int_wrap-sub_right w64 m (s *ℤ (x +ℤ x)) ∙ ap (λ z. int_wrap w64 (z -ℤ s *ℤ (x +ℤ x))) m' ∙ int_wrap-add_left w64 (w *ℤ (x *ℤ x)) _ ∙ ap (int_wrap w64) i
+    int_wrap-sub_right w64 (int_wrap w64 (w *ℤ (x *ℤ x))) (s *ℤ (x +ℤ x)) ∙ int_wrap-add_left w64 (w *ℤ (x *ℤ x)) _ ∙ ap (int_wrap w64) i
 
 -- ---- sums over a list, one element after the other
 
@@ -36,12 +40,29 @@ from_more f xs i d l =
     ap (summed_from f 0) (take_more xs i d l) ∙ from_push f 0 (take i xs) (get_or xs i d) ∙ ap (λ j. summed_from f 0 (take i xs) +ℤ f j (get_or xs i d)) n
 
 -- the code's turn: what is added is congruent to the next element
-pub turn_wrapped : {X : Type 0} (f : ℕ → X → ℤ) (xs : List X) (i : ℕ) (d : X) (base old y new : ℤ) → i < length xs → int_wrap w64 old ≡ int_wrap w64 (base +ℤ summed_from f 0 (take i xs)) → int_wrap w64 y ≡ int_wrap w64 (f i (get_or xs i d)) → new ≡ int_wrap w64 (old +ℤ y) →
+turn_wrapped : {X : Type 0} (f : ℕ → X → ℤ) (xs : List X) (i : ℕ) (d : X) (base old y new : ℤ) → i < length xs → int_wrap w64 old ≡ int_wrap w64 (base +ℤ summed_from f 0 (take i xs)) → int_wrap w64 y ≡ int_wrap w64 (f i (get_or xs i d)) → new ≡ int_wrap w64 (old +ℤ y) →
     int_wrap w64 new ≡ int_wrap w64 (base +ℤ summed_from f 0 (take (i + 1) xs))
 turn_wrapped f xs i d base old y new l a b c =
     let s = base +ℤ summed_from f 0 (take i xs) in
     let z = f i (get_or xs i d) in
     ap (int_wrap w64) c ∙ sym (wrapped_twice (old +ℤ y)) ∙ int_wrap-add_same w64 old s y a ∙ sym (int_wrap-add_right w64 s y) ∙ ap (λ v. int_wrap w64 (s +ℤ v)) b ∙ int_wrap-add_right w64 s z ∙ ap (int_wrap w64) (omega (arith, lin, from_more f xs i d l))
+
+-- the code's fold over the first n elements, where what each adds is congruent to the element's
+module _ {F X : Type 0} (g : Mut F (ℤ × (ℕ × Unit {0})) ℤ) (f : F) (h : ℕ → X → ℤ) (xs : List X) (d : X) (n : ℕ) (base : ℤ) (within : n ≤ length xs) (fits : SFits w64 base)
+    (step : (k : ℕ) (a b : ℤ) (q : F) → k < n → SFits w64 a → Called g f (a, (k, tt)) b q → (q ≡ f) × ((y : ℤ) × (int_wrap w64 y ≡ int_wrap w64 (h k (get_or xs k d))) × (b ≡ int_wrap w64 (a +ℤ y)))) where
+  abbrev Wrapped : ℕ → ℤ → Type 0
+  Wrapped k z = SFits w64 z × (int_wrap w64 z ≡ int_wrap w64 (base +ℤ summed_from h 0 (take k xs)))
+
+  wrapped_step : (k : ℕ) (a b : ℤ) (q : F) → k < n → Wrapped k a → Called g f (a, (k, tt)) b q → (q ≡ f) × Wrapped (k + 1) b
+  wrapped_step k a b q l w called =
+      let (same, (y, adds, is)) = step k a b q l w.0 called in
+      (same, (subst (SFits w64) (sym is) (SFits-int_wrap w64 (a +ℤ y)), turn_wrapped h xs k d base a y b (omega arith) w.1 adds is))
+
+  pub fold_wrapped : (s : Range ℕ) (r : ℤ) → s ≡ record { start = 0; end = n } → (ks : List ℕ) × (q : F) × Drains nat_range_steps s ks × FoldsTo {P = F × ℤ} (λ p x u. Called g p.0 (p.1, (x, tt)) u.1 u.0) (f, base) ks (q, r) →
+      int_wrap w64 (to_z w64 (of_z w64 r)) ≡ int_wrap w64 (base +ℤ summed_from h 0 (take n xs))
+  fold_wrapped s r e ran =
+      let done : Wrapped n r = folded g f Wrapped n wrapped_step s base r e (fits, ap (int_wrap w64) (omega (arith, lin))) ran in
+      ap (int_wrap w64) (to_z-of_z w64 r done.0) ∙ done.1
 
 -- sums of congruent numbers
 pub from_congruent : {X : Type 0} (f g : ℕ → X → ℤ) (d : X) (k : ℕ) (xs : List X) → ((i : ℕ) → i < length xs → int_wrap w64 (f (k + i) (get_or xs i d)) ≡ int_wrap w64 (g (k + i) (get_or xs i d))) → int_wrap w64 (summed_from f k xs) ≡ int_wrap w64 (summed_from g k xs)

@@ -1,7 +1,7 @@
 -- What centers get of entries, part by part.
 use Rattle.std.proofs.Common.{◌≡◌, ℕ, ◌+◌, ◌<◌, Bool, true, false, cond, eqb, List, [], ◌∷◌, ◌++◌, length, get_or, take, ℤ, pos, ◌+ℤ◌, ◌*ℤ◌, sym, refl, ap, ◌∙◌, subst, arith, w64}
 use lib.IntN.{*ℤ-zero}
-use Rattle.std.specs.List.{ContainsAt as Has, AllByRecursion}
+use Rattle.std.specs.List.{AllByRecursion}
 use Rattle.std.specs.Int.{int_wrap}
 use Rattle.std.proofs.lemmas.Int.{int_wrap-add_same}
 use Rattle.numbers.proofs.Ring.{lin}
@@ -16,7 +16,7 @@ use Rattle.boxes.specs.Runs.{entry_at, picked}
 use Rattle.boxes.specs.Tells.{measured, TalliesOf}
 use Rattle.boxes.proofs.Extremes.{picked_more}
 use Rattle.boxes.proofs.Measures.{total_append}
-use Rattle.walk.specs.Growth.{Credited, Grown, Covered}
+use Rattle.walk.specs.Growth.{Credited, Grown}
 use Rattle.walk.specs.Told.{told, Tells, tallies_at}
 
 -- the tallies tell the totals of the entries
@@ -30,9 +30,6 @@ tally_of es t h Squares l = h.squares
 
 pub tally_one : (e : Entry) (t : Tallies) → ((q : Quantity) → Tells q → told q t ≡ pos e.hold *ℤ measured q e.place) → TallyOf (e ∷ []) t
 tally_one e t h q l = omega (arith, lin, h q l)
-
-pub grown_none : (cs : List Place) (ts : List Tallies) → Grown cs [] ts ts
-grown_none cs ts q j l h = ap (int_wrap w64) (omega (arith, lin))
 
 pub grown_append : (cs : List Place) (es fs : List Entry) (ts us vs : List Tallies) → Grown cs es ts us → Grown cs fs us vs → Grown cs (es ++ fs) ts vs
 grown_append cs es fs ts us vs g h q j l k =
@@ -64,27 +61,8 @@ grown_same cs es fs ts us s g q j l h = g q j l h ∙ ap (λ z. int_wrap w64 (to
 
 -- ---- the records of a run, one after the other
 
-all_front : {X : Type 0} (P : X → Type 0) (xs ys : List X) → AllByRecursion P (xs ++ ys) → AllByRecursion P xs
-all_front P [] ys a = tt
-all_front P (x ∷ xs) ys a = (a.0, all_front P xs ys a.1)
-
-all_behind : {X : Type 0} (P : X → Type 0) (xs ys : List X) → AllByRecursion P (xs ++ ys) → AllByRecursion P ys
-all_behind P [] ys a = a
-all_behind P (x ∷ xs) ys a = all_behind P xs ys a.1
-
--- what covers one record more covers those before, and that one
-pub covered_next : (cs : List Place) (ks : List ℕ) (es : List Entry) (run : List ℕ) (i : ℕ) (e : Entry) → i < length run → entry_at es (get_or run i 0) ≡ e → Covered cs ks (picked es (take (i + 1) run)) → Covered cs ks (picked es (take i run)) × Has ks (choose cs e.place)
-covered_next cs ks es run i e l is covered =
+pub run_turn : (cs : List Place) (es : List Entry) (run : List ℕ) (i : ℕ) (ts us vs : List Tallies) (k : ℕ) (more : Tallies) (e : Entry) → i < length run → entry_at es (get_or run i 0) ≡ e →
+    Grown cs (picked es (take i run)) ts us → k ≡ choose cs e.place → Credited k more us vs → TallyOf (e ∷ []) more → Grown cs (picked es (take (i + 1) run)) ts vs
+run_turn cs es run i ts us vs k more e l is so chosen c t =
     let next : picked es (take (i + 1) run) ≡ picked es (take i run) ++ e ∷ [] = picked_more es run i l ∙ ap (λ x. picked es (take i run) ++ x ∷ []) is in
-    let all = subst (Covered cs ks) next covered in
-    let P : Entry → Type 0 = λ x. Has ks (choose cs x.place) in
-    (all_front P (picked es (take i run)) (e ∷ []) all, (all_behind P (picked es (take i run)) (e ∷ []) all).0)
-
-pub run_turn : (cs : List Place) (ks : List ℕ) (es : List Entry) (run : List ℕ) (i : ℕ) (ts us vs : List Tallies) (k : ℕ) (more : Tallies) (e : Entry) → i < length run → entry_at es (get_or run i 0) ≡ e →
-    (Covered cs ks (picked es (take i run)) → Grown cs (picked es (take i run)) ts us) → (Has ks (choose cs e.place) → k ≡ choose cs e.place) → Credited k more us vs → TallyOf (e ∷ []) more →
-    Covered cs ks (picked es (take (i + 1) run)) → Grown cs (picked es (take (i + 1) run)) ts vs
-run_turn cs ks es run i ts us vs k more e l is so chosen c t covered =
-    let next : picked es (take (i + 1) run) ≡ picked es (take i run) ++ e ∷ [] = picked_more es run i l ∙ ap (λ x. picked es (take i run) ++ x ∷ []) is in
-    let parts = covered_next cs ks es run i e l is covered in
-    subst (λ fs. Grown cs fs ts vs) (sym next)
-    (grown_append cs (picked es (take i run)) (e ∷ []) ts us vs (so parts.0) (grown_whole cs k more (e ∷ []) us vs c (chosen parts.1, tt) t))
+    subst (λ fs. Grown cs fs ts vs) (sym next) (grown_append cs (picked es (take i run)) (e ∷ []) ts us vs so (grown_whole cs k more (e ∷ []) us vs c (chosen, tt) t))

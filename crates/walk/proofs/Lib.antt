@@ -2,8 +2,10 @@ pub mod Adding
 pub mod Places
 pub mod Growing
 pub mod Downs
+pub mod Visits
+pub mod Writing
 pub mod Steps
+pub mod Folding
 pub mod Costing
 pub mod Exactness
 pub mod Work
-pub mod Writing

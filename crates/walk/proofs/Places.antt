@@ -1,12 +1,11 @@
 -- A box of one place.
-use Rattle.std.proofs.Common.{◌≡◌, ℕ, zero, suc, ◌<◌, ◌≤◌, Bool, true, false, cond, List, [], ◌∷◌, length, get_or, ℤ, pos, sym, refl, ap, ◌∙◌, subst, inl, inr, arith, w16, SFits, to_z, of_z}
+use Rattle.std.proofs.Common.{◌≡◌, ℕ, ◌<◌, ◌≤◌, Bool, true, false, cond, List, [], ◌∷◌, length, get_or, ℤ, pos, sym, refl, ap, ◌∙◌, subst, inl, inr, arith}
 use borrow.Author.Differences.{ints}
 use lib.Signed.{lt_z}
 use Rattle.std.specs.List.{ContainsAt as Has, AllByRecursion}
 use Rattle.std.proofs.lemmas.List.{get_or-take, ext_get_or, length-take-le}
-use Rattle.std.proofs.lemmas.Int.{to_z-of_z}
 use Rattle.points.specs.Kinds.{position_place, told}
-use Rattle.points.specs.Told.{told_same, at_four}
+use Rattle.points.specs.Told.{at_four}
 use Rattle.numbers.proofs.Quote.{solve, quotes}
 use Rattle.numbers.proofs.Ring.{lin}
 use Rattle.grouping.specs.Boxes.{apart, near}
@@ -44,17 +43,6 @@ leader_chosen cs ks p los his l e f known leads has = listed_chosen cs ks p l kn
     ]
 
 -- ---- the place of a point, as a position
-
-pub by_four : (P : ℕ → Type 0) → P 0 → P 1 → P 2 → P 3 → (j : ℕ) → j < 4 → P j
-by_four P a b c d zero l = a
-by_four P a b c d (suc zero) l = b
-by_four P a b c d (suc (suc zero)) l = c
-by_four P a b c d (suc (suc (suc zero))) l = d
-by_four P a b c d (suc (suc (suc (suc j)))) l = absurd (omega arith)
-
--- a number as the code stores it and the position tells it
-pub told_stored : (x z : ℤ) → SFits w16 x → x ≡ z → told (to_z w16 (of_z w16 x)) ≡ z
-told_stored x z f e = ap told (to_z-of_z w16 x f) ∙ sym (told_same x f) ∙ e
 
 pub place_at : (n : ℕ) (p : Place) (at : List ℤ) → n ≤ 4 → length p ≡ n → ((j : ℕ) → j < 4 → told (get_or at j (pos 0)) ≡ number p j) → place_of n (record { at = at }) ≡ p
 place_at n p at l long h =

@@ -13,16 +13,13 @@ use Rattle.boxes.specs.declared.cut.Cut.{Cut}
 use Rattle.boxes.specs.declared.node.BoxNode.{BoxNode}
 use Rattle.boxes.specs.Regions.{below, boxes_after, holds, cut_at}
 use Rattle.boxes.specs.Runs.{entry_at, picked}
-use Rattle.boxes.specs.Standing.{Agrees}
+use Rattle.boxes.specs.Agreement.{Agrees}
 use Rattle.boxes.specs.Table.{node_at}
 use Rattle.boxes.proofs.Regions.{children_hold}
 use Rattle.boxes.proofs.Sameness.{has_map}
 use Rattle.walk.specs.Assignments.{Written, AssignedIn}
 
 -- ---- a run, one record after the other
-
-pub written_none : (f : ℕ → ℕ) (out : List ℕ) → Written f [] out out
-written_none f out = record { each = λ i h. absurd (omega (arith, h.1)); others = λ i h. refl }
 
 pub written_more : (f : ℕ → ℕ) (run : List ℕ) (j v : ℕ) (old mid : List ℕ) → j < length run → get_or run j 0 < length mid → v ≡ f (get_or run j 0) → Written f (take j run) old mid → Written f (take (j + 1) run) old (set mid (get_or run j 0) v)
 written_more f run j v old mid l inside is w =
@@ -63,13 +60,13 @@ module _ (es : List Entry) (cuts : List Cut) (ns : List BoxNode) (order : List �
       ap (λ j. holds cuts b (entry_at es j).place) (sym is) ∙ a.located b (n.from + k) there (omega arith) ∙ and_from (leb n.from (n.from + k)) (ltb (n.from + k) n.to) (le-leb n.from (n.from + k) (omega arith)) (lt-ltb (n.from + k) n.to lk)
 
   -- so what is written for the run is written for the box
-  pub assigned_run : (cs : List Place) (f : ℕ → ℕ) (old new : List ℕ) → AllByRecursion (λ e. (i : ℕ) → e ≡ entry_at es i → Has (between (node_at ns b).from (node_at ns b).to order) i → f i ≡ choose cs e.place) (picked es (between (node_at ns b).from (node_at ns b).to order)) →
+  pub written_run : (cs : List Place) (f : ℕ → ℕ) (old new : List ℕ) → AllByRecursion (λ e. (i : ℕ) → e ≡ entry_at es i → f i ≡ choose cs e.place) (picked es (between (node_at ns b).from (node_at ns b).to order)) →
       Written f (between (node_at ns b).from (node_at ns b).to order) old new → AssignedIn cs es cuts b old new
-  assigned_run cs f old new right w =
+  written_run cs f old new right w =
       record {
         inside = λ i l h.
             let r = run_has i l h in
-            w.each i r ∙ all-has (λ e. (j : ℕ) → e ≡ entry_at es j → Has (between (node_at ns b).from (node_at ns b).to order) j → f j ≡ choose cs e.place) _ (entry_at es i) right (has_map (λ k. entry_at es k) _ i r) i refl r;
+            w.each i r ∙ all-has (λ e. (j : ℕ) → e ≡ entry_at es j → f j ≡ choose cs e.place) _ (entry_at es i) right (has_map (λ k. entry_at es k) _ i r) i refl;
         outside = λ i l h. w.others i (λ r. both_ways (holds cuts b (entry_at es i).place) h (run_holds i r));
       }
 

@@ -1,6 +1,6 @@
 pub mod Told
 pub mod Growth
-pub mod Boxes
 pub mod Costs
+pub mod Visits
 pub mod Surveys
 pub mod Assignments

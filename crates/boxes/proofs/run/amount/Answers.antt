@@ -2,9 +2,6 @@ use Rattle.std.proofs.Common.{pos, ◌*ℤ◌, ◌∙◌, ap₂, arith}
 use Rattle.boxes.proofs.Measures.{times_fits}
 use Rattle.boxes.proofs.run.amount.Goals as goal
 
-pub overflow_mul-result : goal.overflow_mul-result
-overflow_mul-result g c = (times_fits c.hold.result c.measure.result (omega arith) c.measure.ensures.low c.measure.ensures.high).fits
-
 pub returns : goal.returns
 returns g c =
     let t = times_fits c.hold.result c.measure.result (omega arith) c.measure.ensures.low c.measure.ensures.high in

@@ -2,12 +2,9 @@ use Rattle.std.proofs.Common.{◌<◌, length, sym, ◌∙◌, rules}
 use Rattle.std.proofs.ByRecursion.{All-get_or}
 use Rattle.std.proofs.ByRecursion.{all_shuffled}
 use Rattle.points.specs.Entries.{entries}
-use Rattle.boxes.proofs.Partings.{parted_none, parted_keeps, parted_swaps}
+use Rattle.boxes.proofs.Partings.{parted_keeps, parted_swaps}
 use Rattle.boxes.proofs.run.part.Goals as goal
 use Rattle.boxes.proofs.run.part.Goals.{then-is_below, else-is_below}
-
-pub loop-i-init : goal.loop-i-init
-loop-i-init g c = parted_none (entries g.R.Point g.R.Record c.args.records.now) c.args.cut.now c.args.run.now
 
 pub is_below-requires : goal.is_below-requires
 is_below-requires g c =

@@ -1,4 +1,4 @@
-use Rattle.std.proofs.Common.{◌≡◌, false, refl, subst, inl, inr, add-one, arith}
+use Rattle.std.proofs.Common.{◌≡◌, false, refl, subst, add-one, arith}
 use Rattle.points.specs.Entries.{recorded}
 use Rattle.grouping.specs.Groups.{places}
 use Rattle.grouping.specs.Rounds.{Rounds, start}
@@ -17,9 +17,7 @@ loop-n-preserved g c = (
 pub returns-then-round-eq0 : goal.returns-then-round-eq0
 returns-then-round-eq0 g c =
     record {
-      rounds = rw (add-one c.loop-n.n) (rounds_end c.loop-n.invariant.0 refl c.round.ensures.moved (c.round.ensures.idle c.if-round-eq0.true));
-      most = omega arith;
-      ends = inl refl;
+      rounds = (omega arith, rw (add-one c.loop-n.n) (rounds_end c.loop-n.invariant.0 refl c.round.ensures.moved (c.round.ensures.idle c.if-round-eq0.true)));
       flat = c.round.ensures.flat;
     }
 
@@ -27,8 +25,6 @@ pub returns : goal.returns
 returns g c =
     let all : c.loop-n.n ≡ 100 = omega arith in
     record {
-      rounds = subst (λ n. Rounds (recorded g.R.Point g.R.Record c.args.recording.now) (places g.R.Point.axes c.args.groups.now) n false (places g.R.Point.axes c.loop-n.groups)) all c.loop-n.invariant.0;
-      most = omega arith;
-      ends = inr refl;
+      rounds = subst (λ n. Rounds (recorded g.R.Point g.R.Record c.args.recording.now) (places g.R.Point.AXES c.args.groups.now) n false (places g.R.Point.AXES c.loop-n.groups)) all c.loop-n.invariant.0;
       flat = c.loop-n.invariant.1 (omega arith);
     }

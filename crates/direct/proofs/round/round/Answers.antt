@@ -11,7 +11,7 @@ use Rattle.direct.proofs.round.round.Goals as goal
 
 pub returns : goal.returns
 returns g c =
-    let axes = g.R.Point.axes in
+    let axes = g.R.Point.AXES in
     let es = recorded g.R.Point g.R.Record c.args.recording.now in
     let gs = c.tally.new.groups in
     let hs = c.move_centers.new.groups in

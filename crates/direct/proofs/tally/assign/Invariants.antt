@@ -5,5 +5,5 @@ use Rattle.direct.proofs.tally.assign.Given as goal
 
 abbrev pub invariant-loop-r : goal.invariant-loop-r
 invariant-loop-r g l =
-    Tallied (entries g.R.Point g.R.Record (take l.r-index l.records)) (places g.R.Point.axes l.initial.groups) l.groups
+    Tallied (entries g.R.Point g.R.Record (take l.r-index l.r-items)) (places g.R.Point.AXES l.initial.groups) l.groups
     × (centers l.groups ≡ centers l.initial.groups)

@@ -1,5 +1,5 @@
 use Rattle.direct.proofs.Assigning.{ClearTo}
 use Rattle.direct.proofs.tally.clear.Given as goal
 
-abbrev pub invariant-loop-k : goal.invariant-loop-k
-invariant-loop-k l = ClearTo l.k l.initial.groups l.groups
+abbrev pub invariant-loop-group : goal.invariant-loop-group
+invariant-loop-group l = ClearTo l.group-index l.initial.group-items l.group-items

@@ -1,25 +1,28 @@
-use Rattle.std.proofs.Common.{◌≡◌, ◌+◌, length, refl, ap, arith, rules}
+use Rattle.std.proofs.Common.{◌≡◌, ◌+◌, ◌<◌, ◌≤◌, ℕ, ℤ, pos, ◌+ℤ◌, ◌*ℤ◌, refl, ap, ◌∙◌, arith, w16, w64, SFits, to_z, of_z, rules}
+use borrow.Author.Differences.{ints}
+use Rattle.numbers.proofs.Made.{made_at}
 use Rattle.grouping.specs.Distance.{number}
-use Rattle.direct.proofs.Adding.{added_none, added_more, sum_is, sum_fits}
+use Rattle.direct.proofs.Adding.{moment_low, moment_high, sum_is}
 use Rattle.direct.proofs.tally.with_record.Goals as goal
 
-pub overflow_add-sums : goal.overflow_add-sums
-overflow_add-sums g c =
-    let a = c.loop-a.a in
-    let l = c.loop-a-test.true in
-    sum_fits (number c.loop-a.sums a) (number c.args.group.now.sums a) c.moment.result (c.loop-a.invariant.2 a (omega arith)) (c.requires.low a l) (c.requires.high a l) c.moment.ensures.low c.moment.ensures.high
-
-pub loop-a-init : goal.loop-a-init
-loop-a-init g c =
-    let long : length c.args.group.now.sums ≡ 4 = search rules in
-    added_none c.args.group.now.sums (g.R.Point.place c.args.r.now) (g.R.Record.hold c.args.r.now) long
-
-pub loop-a-preserved : goal.loop-a-preserved
-loop-a-preserved g c =
-    let a = c.loop-a.a in
-    let l = c.loop-a-test.true in
-    let xs = c.args.group.now.sums in
-    added_more xs (g.R.Point.place c.args.r.now) (g.R.Record.hold c.args.r.now) a c.loop-a.sums _ l (sum_is (number c.loop-a.sums a) (number xs a) c.moment.result _ (c.loop-a.invariant.2 a (omega arith)) (c.requires.low a l) (c.requires.high a l) c.moment.ensures.is c.moment.ensures.low c.moment.ensures.high) c.loop-a.invariant
-
 pub returns : goal.returns
-returns g c = record { center = refl; weight = ap (λ n. c.args.group.now.weight + n) c.hold.ensures; sums = λ axis h. c.loop-a.invariant.1 axis (omega arith) }
+returns g c =
+    let group = c.args.group.now in
+    let r = c.args.r.now in
+    let hold = g.R.Record.hold r in
+    let place = g.R.Point.place r in
+    let few : hold ≤ 65535 = (g.met.R.Record.held r).1 in
+    let Sum : ℕ → ℤ → Type 0 = λ i z. i < 4 → z ≡ number group.sums i +ℤ pos hold *ℤ number place i in
+    record {
+      center = refl;
+      weight = ap (λ n. group.weight + n) c.hold.ensures;
+      sums = λ axis h. made_at _ _ Sum
+          (λ i z q k. (
+            search rules,
+            λ l.
+                let fits : SFits w16 (number place i) = omega (arith, ints, g.met.R.Point.ranged r i) in
+                let is : z ≡ to_z w64 (of_z w64 (to_z w64 (of_z w64 (number group.sums i)) +ℤ to_z w64 (of_z w64 (pos hold *ℤ number place i)))) = search rules in
+                is ∙ sum_is (number group.sums i) (pos hold *ℤ number place i) (c.requires.low i l) (c.requires.high i l) (moment_low hold (number place i) few fits) (moment_high hold (number place i) few fits),
+          ))
+          c.from_fn.result 4 axis (pos 0) c.from_fn.ensures.items h h;
+    }

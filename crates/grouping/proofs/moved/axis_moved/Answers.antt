@@ -8,4 +8,4 @@ returns c =
     let some = c.if-group-eq0.false in
     let fs : SFits w64 (number c.args.group.now.sums c.args.a) = search rules in
     let fm : SFits w64 c.rounded_mean-mean.result = search rules in
-    goes_to_mean c.args.group.now c.args.a c.rounded_mean-mean.result c.min.result c.max.result some fs fm (c.rounded_mean-mean.ensures.mean some) c.min.ensures.value c.max.ensures.value
+    goes_to_mean c.args.group.now c.args.a c.rounded_mean-mean.result c.clamp.result some fs fm (c.rounded_mean-mean.ensures.mean some) c.clamp.ensures.value

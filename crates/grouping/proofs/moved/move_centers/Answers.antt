@@ -6,22 +6,22 @@ use Rattle.grouping.proofs.Advancing.{advanced_none, advanced_same, advanced_oth
 use Rattle.grouping.proofs.moved.move_centers.Goals as goal
 use Rattle.grouping.proofs.moved.move_centers.Goals.{then-not-same_place, else-not-same_place}
 
-pub loop-k-init : goal.loop-k-init
-loop-k-init g c = advanced_none g.R.Point.axes c.args.groups.now
+pub loop-group-init : goal.loop-group-init
+loop-group-init g c = advanced_none g.R.Point.AXES c.args.groups.now
 
-pub loop-k-preserved : goal.loop-k-preserved
-loop-k-preserved g c =
-    let axes = g.R.Point.axes in
+pub loop-group-preserved : goal.loop-group-preserved
+loop-group-preserved g c =
+    let axes = g.R.Point.AXES in
     let gs = c.args.groups.now in
-    let hs = c.loop-k.groups in
-    let k = c.loop-k.k in
+    let hs = c.loop-group.group-items in
+    let k = c.loop-group.group-index in
     let lh : k < length hs = omega arith in
     let h : Group = record { center = c.moved-to.result; weight = (group_at hs k).weight; sums = (group_at hs k).sums } in
     let sent : Sent axes (group_at hs k) h = record { goes = c.moved-to.ensures.goes; flat = c.moved-to.ensures.flat; weight = refl; sums = refl } in
     elim c.if-not-same_place.branch [
-      | then-not-same_place w ↦ advanced_other axes k gs hs c.loop-k.changed h c.loop-k-test.true lh c.loop-k.invariant sent c.if-not-same_place.changed w.changed-is (c.same_place.ensures.other w.if-not-same_place.true)
-      | else-not-same_place w ↦ advanced_same axes k gs hs c.loop-k.changed h c.loop-k-test.true lh c.loop-k.invariant sent c.if-not-same_place.changed w.changed-is (c.same_place.ensures.same w.if-not-same_place.false)
+      | then-not-same_place w ↦ advanced_other axes k gs hs c.loop-group.changed h c.loop-group-test.true lh c.loop-group.invariant sent c.if-not-same_place.changed w.changed-is (c.same_place.ensures.other w.if-not-same_place.true)
+      | else-not-same_place w ↦ advanced_same axes k gs hs c.loop-group.changed h c.loop-group-test.true lh c.loop-group.invariant sent c.if-not-same_place.changed w.changed-is (c.same_place.ensures.same w.if-not-same_place.false)
     ]
 
 pub returns : goal.returns
-returns g c = advanced_all g.R.Point.axes c.loop-k.k c.args.groups.now c.loop-k.groups c.loop-k.changed (omega arith) (omega arith) c.loop-k.invariant
+returns g c = advanced_all g.R.Point.AXES c.loop-group.group-index c.args.groups.now c.loop-group.group-items c.loop-group.changed (omega arith) (omega arith) c.loop-group.invariant

@@ -1,15 +1,13 @@
-use Rattle.std.proofs.Common.{◌≡◌, ◌<◌, subst, arith, w16, SFits, rules}
-use Rattle.grouping.proofs.Moves.{Sofar, sofar_more, sofar_goes, sofar_flat}
+use Rattle.std.proofs.Common.{ℕ, ◌<◌, ℤ, pos, arith, w16, SFits, rules}
+use Rattle.numbers.proofs.Made.{made_at}
+use Rattle.grouping.specs.Groups.{Goes}
+use Rattle.grouping.proofs.Moves.{goes_at}
 use Rattle.grouping.proofs.moved.moved.Goals as goal
 
-pub loop-a-preserved : goal.loop-a-preserved
-loop-a-preserved g c =
-    let few : c.loop-a.a < 4 = omega (arith, g.met.R.Point.few.1, c.axis_count-n.ensures) in
-    let fits : SFits w16 c.axis_moved.result = search rules in
-    sofar_more c.args.group.now c.loop-a.at c.loop-a.a c.axis_moved.result few fits c.axis_moved.ensures c.loop-a.invariant
-
-pub returns : goal.returns
-returns g c =
-    let all : c.loop-a.a ≡ g.R.Point.axes = omega (arith, c.axis_count-n.ensures) in
-    let so = subst (Sofar c.args.group.now c.loop-a.at) all c.loop-a.invariant in
-    record { goes = sofar_goes c.args.group.now (record { at = c.loop-a.at }) g.R.Point.axes g.met.R.Point.few.1 so; flat = sofar_flat c.args.group.now (record { at = c.loop-a.at }) g.R.Point.axes so }
+pub returns-clause-goes : goal.returns-clause-goes
+returns-clause-goes g c a h =
+    let group = c.args.group.now in
+    let at = c.from_fn.result in
+    let few : a < 4 = omega (arith, g.met.R.Point.few.1) in
+    let goes = made_at _ _ (λ (i : ℕ) (z : ℤ). SFits w16 z × (i < g.R.Point.AXES → Goes group i z)) (λ i z q k. search rules) at 4 a (pos 0) c.from_fn.ensures.items few in
+    goes_at group (record { at = at }) a few goes.0 (goes.1 h)

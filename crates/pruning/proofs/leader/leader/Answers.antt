@@ -1,45 +1,56 @@
-use Rattle.std.proofs.Common.{◌<◌, ◌≤◌, length, ◌∙◌, arith, w64, SFits, rules}
+use Rattle.std.proofs.Common.{◌≡◌, ℕ, ◌<◌, length, get_or, ℤ, ◌∙◌, refl, sym, ap, inl, inr, arith, rules}
 use borrow.Author.Differences.{ints}
-use Rattle.std.proofs.lemmas.Int.{to_z-of_z}
+use Rattle.std.proofs.lemmas.Int.{by_lt_z}
+use Rattle.std.proofs.lemmas.Bool.{cases_lt}
+use Rattle.std.proofs.lemmas.Option.{MatchOption-at_some}
+use Rattle.numbers.proofs.Firsts.{first_least}
+use Rattle.numbers.proofs.Ring.{lin}
+use Rattle.grouping.specs.Boxes.{near}
+use Rattle.grouping.specs.Choice.{center}
 use Rattle.grouping.specs.Groups.{place_of}
+use Rattle.pruning.specs.declared.contender.Contender.{Contender}
 use Rattle.pruning.specs.Candidates.{listed, among}
-use Rattle.pruning.proofs.Leading.{foremost_first, foremost_takes, foremost_keeps, foremost_all}
+use Rattle.pruning.specs.Positions.{lows_of, highs_of}
 use Rattle.pruning.proofs.Listed.{candidates_fit}
 use Rattle.pruning.proofs.leader.leader.Goals as goal
-use Rattle.pruning.proofs.leader.leader.Goals.{then-d-least, else-d-least}
 
-pub loop-i-init : goal.loop-i-init
-loop-i-init c =
-    let axes = c.args.axes in
-    let b = c.args.bounds.now in
+pub returns-clause-leads : goal.returns-clause-leads
+returns-clause-leads c =
+    let r = c.args.region.now in
     let s = c.args.candidates.now in
-    let fit = candidates_fit axes s in
-    let fits : SFits w64 c.near_distance-least.result = search rules in
-    foremost_first axes (place_of axes b.least) (place_of axes b.greatest) (among axes s) (listed s) fit c.get-best.result _ c.near_distance-least.result (to_z-of_z w64 _ fits) c.near_distance-least.ensures.is (c.get-best.ensures.stands axes) (c.get-best.ensures.at fit.some)
-
-pub loop-i-preserved : goal.loop-i-preserved
-loop-i-preserved c =
-    let axes = c.args.axes in
-    let b = c.args.bounds.now in
-    let s = c.args.candidates.now in
-    let fits : SFits w64 c.near_distance-d.result = search rules in
-    let il : c.loop-i.i < length (listed s) = omega (arith, c.count-i-end.ensures.is) in
-    elim c.if-d-least.branch [
-      | then-d-least w ↦
-          foremost_takes axes (place_of axes b.least) (place_of axes b.greatest) (among axes s) (listed s) (candidates_fit axes s) c.loop-i.i c.loop-i.best c.get-other.result _ c.near_distance-d.result il c.loop-i.invariant c.near_distance-d.ensures.is (c.get-other.ensures.stands axes) (c.get-other.ensures.at il)
-          c.if-d-least.best _ w.best-is (w.least-is ∙ to_z-of_z w64 _ fits) (omega (arith, ints, w.if-d-least.true))
-      | else-d-least w ↦
-          foremost_keeps axes (place_of axes b.least) (place_of axes b.greatest) (among axes s) (listed s) (candidates_fit axes s) c.loop-i.i c.loop-i.best c.get-other.result _ c.near_distance-d.result il c.loop-i.invariant c.near_distance-d.ensures.is (c.get-other.ensures.stands axes) (c.get-other.ensures.at il)
-          c.if-d-least.best _ w.best-is w.least-is (omega (arith, ints, w.if-d-least.false))
-    ]
-
-pub returns : goal.returns
-returns c =
-    let axes = c.args.axes in
-    let b = c.args.bounds.now in
-    let s = c.args.candidates.now in
-    let all : length (listed s) ≤ c.loop-i.i = omega (arith, c.count-i-end.ensures.is, c.loop-i-test.false) in
+    let ks = listed s in
+    let cs = among r.axes s in
+    let fit = candidates_fit r.axes s in
+    let key : ℕ → ℤ = λ i. near (lows_of r) (highs_of r) (center cs (get_or ks i 0)) in
+    let h = first_least _ _ key _ (λ i z f' l k.
+    let m : i < length ks = omega (arith, c.count.ensures.is) in
+    let same : f' ≡ (c.args.region, c.args.candidates) = search rules in
+    let is : (x : Contender) × (x.number ≡ get_or ks i 0) × (place_of r.axes x.position ≡ center cs x.number) × (z ≡ near (lows_of r) (highs_of r) (place_of r.axes x.position)) = search rules in
+    (same, is.3 ∙ ap (near (lows_of r) (highs_of r)) (is.2 ∙ ap (center cs) is.1))) _ _ refl c.min_by_key.ensures.ran in
+    let f = MatchOption-at_some _ _ c.unwrap-first.result c.unwrap-first.ensures h in
+    let there : c.unwrap-first.result < length ks = omega (arith, c.count.ensures.is, f.there) in
+    let at = c.get.ensures.at there in
     record {
-      leads = foremost_all axes (place_of axes b.least) (place_of axes b.greatest) (among axes s) (listed s) (candidates_fit axes s) c.loop-i.i c.loop-i.best _ all c.loop-i.invariant;
-      stands = c.loop-i.invariant.stands;
+      one_of = c.get.ensures.one;
+      nearest = λ j has other.
+          let e : get_or ks has.0 0 ≡ j = has.2 0 in
+          let l = c.get.result.number in
+          let far = near (lows_of r) (highs_of r) in
+          let kl : key c.unwrap-first.result ≡ far (center cs l) = ap (λ k. far (center cs k)) (sym at) in
+          let kj : key has.0 ≡ far (center cs j) = ap (λ k. far (center cs k)) e in
+          let least = f.least has.0 (omega (arith, c.count.ensures.is, has.1)) in
+          by_lt_z (far (center cs l)) (far (center cs j)) (λ nearer. inl nearer) (λ most.
+          inr (
+            omega (arith, ints, lin, kl, kj, least, most),
+            elim (cases_lt has.0 c.unwrap-first.result) [
+              | inl before ↦ absurd (omega (arith, ints, lin, kl, kj, f.first has.0 before, most))
+              | inr after ↦ elim (cases_lt c.unwrap-first.result has.0) [
+                | inl behind ↦ omega (arith, at, e, fit.rises c.unwrap-first.result has.0 behind has.1)
+                | inr not_behind ↦ let same : has.0 ≡ c.unwrap-first.result = omega arith in absurd (other (sym e ∙ ap (λ k. get_or ks k 0) same ∙ sym at))
+              ]
+            ],
+          ));
     }
+
+pub returns-clause-stands : goal.returns-clause-stands
+returns-clause-stands c = c.get.ensures.stands c.args.region.now.axes

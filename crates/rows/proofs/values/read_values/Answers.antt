@@ -1,74 +1,57 @@
 use Rattle.std.proofs.Common.{◌≡◌, ◌+◌, ◌<◌, length, get_or, set, sym, ap, ◌∙◌, subst, arith, w32, to_z, of_z}
-use Rattle.std.proofs.lemmas.List.{get_or-take, length-set}
+use Rattle.std.proofs.lemmas.List.{length-set}
 use Rattle.std.proofs.lemmas.Result.{err_from_is_err_and}
-use Rattle.reader.specs.Steps.{Lent, fields_left}
+use Rattle.reader.specs.Steps.{fields_left}
 use Rattle.rows.specs.Columns.{width}
 use Rattle.rows.specs.Lines.{columns_in}
-use Rattle.rows.proofs.Fields.{Stepped, stepped, some_left, value_lent}
+use Rattle.rows.proofs.Fields.{next_field, field_there}
 use Rattle.rows.proofs.Spelled.{ReadSofar, one_read, right_before, range_read, cell_right, cell_wrong, all_cells, all_fit, order_once}
 use Rattle.rows.proofs.values.read_values.Goals as goal
-use Rattle.rows.proofs.values.read_values.Goals.{In-Value}
 
-module _ (c : In-Value) where
-  -- what the reader said of the field that a turn takes
-  lent : Lent c.loop-k.reader c.in-Value.bytes.now c.in-Value.line c.in-Value.column c.value.new.self
-  lent = value_lent _ _ _ _ _ _ c.in-Some.ensures c.in-Value.is
+pub unwrap-field-requires : goal.unwrap-field-requires
+unwrap-field-requires c =
+    let each = order_once c.args.order.now in
+    field_there (fields_left c.args.reader.now) c.loop-c.c-index c.loop-c.reader c.field.new.self c.field.result c.field.ensures c.loop-c.invariant.left (omega (arith, each.long, ap length c.columns-c-items.ensures, c.if-fields_left-columns.false, c.fields_left.ensures, ap length c.columns-columns.ensures))
 
-  taken : Stepped c.args.reader.now c.loop-k.k c.in-Value.bytes.now c.value.new.self
-  taken = stepped _ _ c.loop-k.k _ _ _ _ c.loop-k.invariant.1 c.loop-k.invariant.4 c.loop-k.invariant.5 lent
-
-  below : c.loop-k.k < width c.args.order.now.kind
-  below = omega (arith, c.loop-k-test.true, ap length c.columns-columns.ensures)
-
-  -- the column of that field
-  column : get_or (columns_in c.args.order.now) c.loop-k.k 0 ≡ get_or c.args.order.now.at c.loop-k.k 0
-  column = get_or-take _ c.args.order.now.at _ 0 below
-
-pub unreachable-requires : goal.unreachable-requires
-unreachable-requires c = some_left _ c.loop-k.k (omega (arith, c.loop-k-test.true, c.if-fields_left-columns.false, c.fields_left.ensures)) (c.loop-k.invariant.1 ∙ c.in_default.ensures.0)
-
-pub returns-in_err-values : goal.returns-in_err-values
-returns-in_err-values c =
+pub returns-in_err-values-clause-values : goal.returns-in_err-values-clause-values
+returns-in_err-values-clause-values c =
     let p = err_from_is_err_and c.from_residual.result c.from_residual.ensures.1 in
-    let state = (goal.at.returns-in_err-values c).In-Value in
-    let step = taken state in
-    let order = c.args.order.now in
-    record {
-      values = rw (p.1, p.2)
-          (cell_wrong order.kind (columns_in order) _ _ c.loop-k.k _ _ _ _ _ c.read_at.ensures c.in_err-values.was
-          (range_read order.kind _ _ _ _ c.columns-columns.ensures (sym (column state)) ((order_once order).known c.loop-k.k (below state)))
-          step.is (omega (arith, (lent state).column_is, c.loop-k.invariant.3)) (below state) (omega (arith, c.if-fields_left-columns.false, c.fields_left.ensures, ap length c.columns-columns.ensures))
-          (right_before order.kind (columns_in order) (fields_left c.args.reader.now) c.loop-k.k c.loop-k.values c.loop-k.invariant.0));
-      rest = step.rest;
-      line = step.line;
-    }
-
-pub loop-k-preserved : goal.loop-k-preserved
-loop-k-preserved c =
-    let state = (goal.at.loop-k-preserved c).In-Value in
-    let step = taken state in
-    let order = c.args.order.now in
-    let each = order_once order in
-    let right = cell_right _ _ _ _ _ _ _ c.read_at.ensures c.in_ok-values.was (range_read order.kind _ _ _ _ c.columns-columns.ensures (sym (column state)) (each.known c.loop-k.k (below state))) step.is in (
-      subst (λ d. ReadSofar order.kind (columns_in order) (fields_left c.args.reader.now) (c.loop-k.k + 1) (set c.loop-k.values d (to_z w32 (of_z w32 c.in_ok-values.field-0)))) (column state)
-          (one_read order.kind (columns_in order) _ c.loop-k.k _ _ each (below state) c.loop-k.invariant.2 c.loop-k.invariant.0 right.0 right.1),
-      step.left,
-      length-set _ _ _ ∙ c.loop-k.invariant.2,
-      omega (arith, (lent state).step, c.loop-k.invariant.3),
-      step.rest,
-      step.line,
-    )
-
-pub returns : goal.returns
-returns c =
+    let lent = rw c.unwrap-field.ensures at c.field.ensures in
+    let step = next_field _ c.loop-c.c-index _ _ (c.loop-c.invariant.left ∙ lent.first) in
     let order = c.args.order.now in
     let each = order_once order in
     let n = ap length c.columns-columns.ensures in
-    let fields = fields_left c.args.reader.now in
-    let all : c.loop-k.k ≡ width order.kind = omega (arith, c.loop-k-test.false, n) in
-    let read = subst (λ k. ReadSofar order.kind (columns_in order) fields k c.loop-k.values) all c.loop-k.invariant.0 in
+    let below : c.loop-c.c-index < width order.kind = omega (arith, each.long, ap length c.columns-c-items.ensures) in
+    rw (p.1, p.2)
+    (cell_wrong order.kind (columns_in order) _ _ c.loop-c.c-index _ _ _ _ c.in_err-values.ensures
+    (range_read order.kind _ _ _ _ c.columns-columns.ensures (ap (λ l. get_or l c.loop-c.c-index 0) c.columns-c-items.ensures) (each.known c.loop-c.c-index below))
+    step.0 (omega (arith, lent.column_is, c.loop-c.invariant.place)) below (omega (arith, c.if-fields_left-columns.false, c.fields_left.ensures, n))
+    (right_before order.kind (columns_in order) (fields_left c.args.reader.now) c.loop-c.c-index c.loop-c.values c.loop-c.invariant.read))
+
+pub loop-c-preserved : goal.loop-c-preserved
+loop-c-preserved c =
+    let lent = rw c.unwrap-field.ensures at c.field.ensures in
+    let step = next_field _ c.loop-c.c-index _ _ (c.loop-c.invariant.left ∙ lent.first) in
+    let order = c.args.order.now in
+    let each = order_once order in
+    let column = ap (λ l. get_or l c.loop-c.c-index 0) c.columns-c-items.ensures in
+    let below : c.loop-c.c-index < width order.kind = omega (arith, each.long, ap length c.columns-c-items.ensures) in
+    let right = cell_right _ _ _ _ _ c.in_ok-values.ensures (range_read order.kind _ _ _ _ c.columns-columns.ensures column (each.known c.loop-c.c-index below)) step.0 in
     record {
-      values = (all_cells order.kind (columns_in order) fields c.loop-k.values each read (omega (arith, c.if-fields_left-columns.false, c.fields_left.ensures, n)), all_fit order.kind (columns_in order) fields c.loop-k.values each read c.loop-k.invariant.2);
-      rest = c.loop-k.invariant.4;
-      line = c.loop-k.invariant.5;
+      read = subst (λ d. ReadSofar order.kind (columns_in order) (fields_left c.args.reader.now) (c.loop-c.c-index + 1) (set c.loop-c.values d (to_z w32 (of_z w32 c.in_ok-values.field-0)))) (sym column)
+          (one_read order.kind (columns_in order) _ c.loop-c.c-index _ _ each below c.loop-c.invariant.four c.loop-c.invariant.read right.0 right.1);
+      left = step.1;
+      four = length-set _ _ _ ∙ c.loop-c.invariant.four;
+      place = omega (arith, lent.step, c.loop-c.invariant.place);
+      rest = lent.same_rest ∙ c.loop-c.invariant.rest;
+      line = lent.same_line ∙ c.loop-c.invariant.line;
     }
+
+pub returns-clause-values : goal.returns-clause-values
+returns-clause-values c =
+    let order = c.args.order.now in
+    let each = order_once order in
+    let fields = fields_left c.args.reader.now in
+    let all : c.loop-c.c-index ≡ width order.kind = omega (arith, each.long, ap length c.columns-c-items.ensures) in
+    let read = subst (λ k. ReadSofar order.kind (columns_in order) fields k c.loop-c.values) all c.loop-c.invariant.read in
+    (all_cells order.kind (columns_in order) fields c.loop-c.values each read (omega (arith, c.if-fields_left-columns.false, c.fields_left.ensures, ap length c.columns-columns.ensures)), all_fit order.kind (columns_in order) fields c.loop-c.values each read c.loop-c.invariant.four)

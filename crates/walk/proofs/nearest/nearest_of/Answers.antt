@@ -9,13 +9,12 @@ use Rattle.walk.proofs.nearest.nearest_of.Goals as goal
 
 pub returns : goal.returns
 returns g c =
-    let axes = g.R.Point.axes in
+    let axes = g.R.Point.AXES in
     let s = c.args.candidates.now in
     let p = g.R.Point.place c.args.r.now in
     let here = c.position_of-here.result in
     let l = c.leader.result.number in
-    let n = c.axis_count.ensures in
-    let leads = subst (λ a. Leader (place_of a here) (place_of a here) (among a s) (listed s) l) n c.leader.ensures.leads in
+    let leads = subst (λ a. Leader (place_of a here) (place_of a here) (among a s) (listed s) l) c.AXES.ensures c.leader.ensures.leads in
     let fit = candidates_fit axes s in
     record {
       chosen = leader_chosen (among axes s) (listed s) p (place_of axes here) (place_of axes here) l c.position_of-here.ensures c.position_of-here.ensures fit.known leads;

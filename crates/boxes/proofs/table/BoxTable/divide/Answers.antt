@@ -1,79 +1,119 @@
-use Rattle.std.proofs.Common.{◌≡◌, ◌+◌, ◌-◌, ◌*◌, ◌<◌, [], ◌∷◌, ◌++◌, length, take, sym, refl, ap, ◌∙◌, subst, ap₂, arith}
-use Rattle.std.specs.List.{between}
-use Rattle.std.proofs.lemmas.List.{length-map, length-take-le}
-use Rattle.points.specs.Entries.{entry, recorded}
+use Rattle.std.proofs.Common.{◌≡◌, ◌+◌, ◌*◌, ◌<◌, ◌≤◌, length, set, sym, refl, ◌∙◌, subst, arith}
+use Rattle.std.specs.List.{between, All}
+use Rattle.std.proofs.lemmas.List.{length-set}
+use Rattle.points.specs.Entries.{entries}
 use Rattle.boxes.specs.Runs.{picked, Parted}
-use Rattle.boxes.specs.Standing.{entries_of, cuts_of, Agrees}
-use Rattle.boxes.specs.Table.{node_at, HasCuts, Grown}
+use Rattle.boxes.specs.Standing.{run_of}
+use Rattle.boxes.specs.Table.{node_at, with_cut}
 use Rattle.boxes.specs.Tells.{BoundsOf, TalliesOf}
-use Rattle.boxes.proofs.Cuttings.{agrees_cut}
+use Rattle.boxes.proofs.Dividing.{order, known, reordered, some_below, some_above, part_length, part_known, agrees_parted, agrees_divided}
+use Rattle.boxes.proofs.Growth.{grown_by, runs_grown, cuts_grown, rises_grown}
 use Rattle.boxes.proofs.table.BoxTable.divide.Goals as goal
 
-pub run_box-first-requires : goal.run_box-first-requires
-run_box-first-requires g c =
+pub invariant_of-self : goal.invariant_of-self
+invariant_of-self g c =
     let t = c.args.self.now in
-    let r = t.runs c.args.cut.parent c.requires.stood in
-    let same = ap (λ x. length x.records.now) c.part_run.ensures.recording in
-    (omega (arith, c.part_run.ensures.counted, c.requires.lower), omega (arith, c.part_run.ensures.counted, c.requires.upper, r.1, same))
-
-pub run_box-second-requires : goal.run_box-second-requires
-run_box-second-requires g c =
-    let t = c.args.self.now in
-    let r = t.runs c.args.cut.parent c.requires.stood in
-    let same = ap (λ x. length x.records.now) c.part_run.ensures.recording in
-    (omega (arith, c.part_run.ensures.counted, c.requires.upper), omega (arith, r.1, same))
-
-pub push-requires : goal.push-requires
-push-requires g c =
-    let t = c.args.self.now in
-    let r = t.runs c.args.cut.parent c.requires.stood in
-    let same = ap (λ x. length x.records.now) c.part_run.ensures.recording in
-    let first = c.run_box-first.ensures in
-    let second = c.run_box-second.ensures in
+    let axes = g.R.Point.AXES in
+    let cut = c.args.cut in
+    let ys = c.part.new.run in
+    let k = c.part.result in
+    let ok = c.requires.accepted in
+    let old = run_of t cut.parent in
+    let p = subst (λ rs. Parted (entries g.R.Point g.R.Record rs) cut old ys k (length old)) c.records-records.ensures c.part.ensures in
     record {
-      room = omega (arith, c.requires.room, c.part_run.ensures.count);
-      stood = omega (arith, c.requires.stood, c.part_run.ensures.count);
-      run = (omega (arith, first.from, first.to, c.part_run.ensures.counted, c.requires.lower), omega (arith, second.from, second.to, c.part_run.ensures.counted, c.requires.upper));
-      within = (omega (arith, first.to, c.part_run.ensures.counted, c.requires.upper, r.1, same), omega (arith, second.to, r.1, same));
-      uncut = (first.cut, second.cut);
+      wide = t.wide;
+      logged = t.logged;
+      long = (reordered t axes cut ok ys k c.part.auto.run p).long ∙ t.long;
+      few = t.few;
+      known = known t axes cut ok ys k c.part.auto.run p;
+      runs = t.runs;
+      links = t.links;
+      rising = t.rising;
+      stands = ∣ agrees_parted t axes cut ok ys k c.part.auto.run p ∣₁;
     }
 
-pub returns : goal.returns
-returns g c =
+pub invariant_of-first : goal.invariant_of-first
+invariant_of-first g c =
     let t = c.args.self.now in
-    let parted = c.part_run.new.self in
-    let last = c.push.new.self in
+    let axes = g.R.Point.AXES in
     let cut = c.args.cut in
     let n = node_at t.nodes cut.parent in
-    let from = n.from in
-    let to = n.to in
-    let mid = from + c.part_run.result in
-    let e = c.part_run.ensures in
-    let es = entries_of g.R.Point g.R.Record t in
-    let cuts = cuts_of t in
-    let first = c.run_box-first.result in
-    let second = c.run_box-second.result in
+    let ys = c.part.new.run in
+    let k = c.part.result in
+    let ok = c.requires.accepted in
+    let old = run_of t cut.parent in
+    let p = subst (λ rs. Parted (entries g.R.Point g.R.Record rs) cut old ys k (length old)) c.records-records.ensures c.part.ensures in
+    let some = some_below t axes cut ok ys k c.part.auto.run p in
+    let more = some_above t axes cut ok ys k c.part.auto.run p in
     let r = t.runs cut.parent c.requires.stood in
-    let many : length es ≡ length t.recording.records.now = length-map t.recording.records.now (λ x. entry g.R.Point g.R.Record x) in
-    let count : length cuts ≡ t.count = length-take-le t.count t.cuts (omega (arith, t.few, t.logged)) in
-    let same_entries : entries_of g.R.Point g.R.Record parted ≡ es = ap (recorded g.R.Point g.R.Record) e.recording in
-    let noted = c.push.ensures.noted ∙ ap₂ (λ k xs. take k xs ++ cut ∷ []) e.count e.cuts in
-    let same-recording = c.push.ensures.recording ∙ e.recording in
-    let k : mid - from ≡ c.part_run.result = omega arith in
-    let p : Parted es cut (between from to t.order) (between from to parted.order) (mid - from) (to - from) = subst (λ m. Parted es cut (between from to t.order) (between from to parted.order) m (to - from)) (sym k) e.parted in
-    let grown : Grown t.nodes (length cuts) cut.parent first second last.nodes = subst (λ ns. Grown ns (length cuts) cut.parent first second last.nodes) e.nodes (subst (λ m. Grown parted.nodes m cut.parent first second last.nodes) (e.count ∙ sym count) c.push.ensures.grown) in
-    let stood : cut.parent < 2 * length cuts + 1 = omega (arith, c.requires.stood, count) in
-    let links : HasCuts t.nodes (length cuts) = subst (HasCuts t.nodes) (sym count) t.links in
+    let end : n.from + k ≤ n.to = omega (arith, more) in
+    let long = part_length t axes cut ok ys k c.part.auto.run p n.from (n.from + k) end in
     record {
-      stands = λ s.
-          let made = agrees_cut es cuts t.nodes last.nodes t.order parted.order cut from to mid first second s stood (s.uncut cut.parent stood c.requires.uncut) refl refl (omega arith) (omega (arith, e.counted, c.requires.upper)) (omega (arith, many, r.1)) (omega (arith, many, t.recording.few, t.long)) e.reordered p grown
-          c.run_box-first.ensures.from c.run_box-first.ensures.to c.run_box-second.ensures.from c.run_box-second.ensures.to c.run_box-first.ensures.cut c.run_box-second.ensures.cut
-          (subst (λ fs. BoundsOf (picked fs (between from mid parted.order)) first.bounds) same_entries c.run_box-first.ensures.bounds) (subst (λ fs. TalliesOf (picked fs (between from mid parted.order)) first.tallies) same_entries c.run_box-first.ensures.tallies)
-          (subst (λ fs. BoundsOf (picked fs (between mid to parted.order)) second.bounds) same_entries c.run_box-second.ensures.bounds) (subst (λ fs. TalliesOf (picked fs (between mid to parted.order)) second.tallies) same_entries c.run_box-second.ensures.tallies)
-          links in
-          subst (λ o. Agrees (entries_of g.R.Point g.R.Record last) (cuts_of last) last.nodes o) (sym c.push.ensures.order)
-          (subst (λ cs. Agrees (entries_of g.R.Point g.R.Record last) cs last.nodes parted.order) (sym noted)
-          (subst (λ fs. Agrees fs (cuts ++ cut ∷ []) last.nodes parted.order) (sym (ap (recorded g.R.Point g.R.Record) same-recording)) made));
-      noted = noted;
-      recording = same-recording;
+      known = subst (λ rs. All (λ i. i < length rs) (between n.from (n.from + k) (order t axes cut ok ys k c.part.auto.run p))) (sym c.records-records.ensures) (part_known t axes cut ok ys k c.part.auto.run p n.from (n.from + k) end);
+      some = omega (arith, long, some);
+      few = omega (arith, long, r.1, t.recording.few, end);
+    }
+
+pub invariant_of-second : goal.invariant_of-second
+invariant_of-second g c =
+    let t = c.args.self.now in
+    let axes = g.R.Point.AXES in
+    let cut = c.args.cut in
+    let n = node_at t.nodes cut.parent in
+    let ys = c.part.new.run in
+    let k = c.part.result in
+    let ok = c.requires.accepted in
+    let old = run_of t cut.parent in
+    let p = subst (λ rs. Parted (entries g.R.Point g.R.Record rs) cut old ys k (length old)) c.records-records.ensures c.part.ensures in
+    let more = some_above t axes cut ok ys k c.part.auto.run p in
+    let r = t.runs cut.parent c.requires.stood in
+    let end : n.to ≤ n.to = omega arith in
+    let long = part_length t axes cut ok ys k c.part.auto.run p (n.from + k) n.to end in
+    record {
+      known = subst (λ rs. All (λ i. i < length rs) (between (n.from + k) n.to (order t axes cut ok ys k c.part.auto.run p))) (sym c.records-records.ensures) (part_known t axes cut ok ys k c.part.auto.run p (n.from + k) n.to end);
+      some = omega (arith, long, more);
+      few = omega (arith, long, r.1, t.recording.few);
+    }
+
+pub invariant_of-self-2 : goal.invariant_of-self-2
+invariant_of-self-2 g c =
+    let t = c.args.self.now in
+    let axes = g.R.Point.AXES in
+    let i = t.count in
+    let cut = c.args.cut in
+    let n = node_at t.nodes cut.parent in
+    let ys = c.part.new.run in
+    let k = c.part.result in
+    let ok = c.requires.accepted in
+    let old = run_of t cut.parent in
+    let p = subst (λ rs. Parted (entries g.R.Point g.R.Record rs) cut old ys k (length old)) c.records-records.ensures c.part.ensures in
+    let some = some_below t axes cut ok ys k c.part.auto.run p in
+    let more = some_above t axes cut ok ys k c.part.auto.run p in
+    let new = order t axes cut ok ys k c.part.auto.run p in
+    let end : n.from + k ≤ n.to = omega (arith, more) in
+    let first_long = part_length t axes cut ok ys k c.part.auto.run p n.from (n.from + k) end in
+    let second_long = part_length t axes cut ok ys k c.part.auto.run p (n.from + k) n.to (omega arith) in
+    let r = t.runs cut.parent c.requires.stood in
+    let first = c.node-first.result in
+    let second = c.node-second.result in
+    let one = c.node-first.ensures in
+    let two = c.node-second.ensures in
+    let first_to : first.to ≡ n.from + k = omega (arith, one.to, first_long) in
+    let second_to : second.to ≡ n.to = omega (arith, two.to, second_long, more) in
+    let xs = set t.nodes cut.parent (with_cut n i) in
+    let zs = set xs (2 * i + 1) first in
+    let ns = set zs (2 * i + 2) second in
+    let grown = grown_by t.nodes i cut.parent (with_cut n i) first second t.wide c.requires.room c.requires.stood refl in
+    record {
+      wide = length-set zs (2 * i + 2) second ∙ length-set xs (2 * i + 1) first ∙ length-set t.nodes cut.parent (with_cut n i) ∙ t.wide;
+      logged = length-set t.cuts i cut ∙ t.logged;
+      long = (reordered t axes cut ok ys k c.part.auto.run p).long ∙ t.long;
+      few = omega (arith, c.requires.room);
+      known = known t axes cut ok ys k c.part.auto.run p;
+      runs = runs_grown t.nodes i cut.parent first second ns grown _ c.requires.stood t.runs (omega (arith, one.from, first_to, some)) (omega (arith, first_to, end, r.1)) (omega (arith, two.from, second_to, more)) (omega (arith, second_to, r.1));
+      links = cuts_grown t.nodes i cut.parent first second ns grown one.cut two.cut t.links;
+      rising = rises_grown t.nodes i cut.parent first second ns grown c.requires.stood one.cut two.cut t.rising;
+      stands = ∣ agrees_divided t axes cut ok ys k c.part.auto.run p ns first second grown one.from first_to two.from second_to one.cut two.cut
+          (subst (λ rs. BoundsOf (picked (entries g.R.Point g.R.Record rs) (between n.from (n.from + k) new)) first.bounds) c.records-records.ensures one.bounds) (subst (λ rs. TalliesOf (picked (entries g.R.Point g.R.Record rs) (between n.from (n.from + k) new)) first.tallies) c.records-records.ensures one.tallies)
+          (subst (λ rs. BoundsOf (picked (entries g.R.Point g.R.Record rs) (between (n.from + k) n.to new)) second.bounds) c.records-records.ensures two.bounds) (subst (λ rs. TalliesOf (picked (entries g.R.Point g.R.Record rs) (between (n.from + k) n.to new)) second.tallies) c.records-records.ensures two.tallies) ∣₁;
     }

@@ -1,11 +1,11 @@
 use Rattle.std.proofs.Common.{◌≡◌, ◌-◌, ◌≤◌}
 use Rattle.boxes.specs.Halving.{Halvings}
-use Rattle.boxes.specs.Standing.{Stands, cuts_of, entries_of}
+use Rattle.boxes.specs.Standing.{cuts_of, entries_of}
 use Rattle.boxes.proofs.table.BoxTable.halve.Given as goal
 
 abbrev pub invariant-loop-n : goal.invariant-loop-n
 invariant-loop-n g l =
-    (Stands g.R.Point g.R.Record l.initial.self → Stands g.R.Point g.R.Record l.self × Halvings g.R.Point.axes (entries_of g.R.Point g.R.Record l.initial.self) (cuts_of l.initial.self) l.n (cuts_of l.self))
+    Halvings g.R.Point.AXES (entries_of l.initial.self) (cuts_of l.initial.self) l.n (cuts_of l.self)
     × (l.self.recording ≡ l.initial.self.recording)
     × (l.n ≤ l.self.count)
 

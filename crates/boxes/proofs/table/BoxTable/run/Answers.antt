@@ -1,14 +1,10 @@
-use Rattle.std.proofs.Common.{ap, arith}
-use Rattle.std.specs.List.{between}
-use Rattle.boxes.proofs.Orders.{run_known}
+use Rattle.std.proofs.Common.{◌<◌, length, ap, ◌∙◌, subst}
+use Rattle.std.specs.List.{AllByRecursion}
+use Rattle.std.proofs.ByRecursion.{All-from_get_or}
 use Rattle.boxes.proofs.table.BoxTable.run.Goals as goal
 
-pub returns : goal.returns
-returns g c =
-    let t = c.args.self.now in
-    let n = c.node-node.result in
-    record {
-      is = λ l. ap (λ m. between m.from m.to t.order) (c.node-node.ensures.is l);
-      past = λ l. ap (λ m. between m.from m.to t.order) (c.node-node.ensures.past l);
-      known = run_known t.order _ n.from n.to t.known c.node-node.ensures.run.1 (omega (arith, t.recording.few, t.long));
-    }
+pub returns-clause-known : goal.returns-clause-known
+returns-clause-known g c =
+    let run = c.run.result in
+    let same = c.run.ensures.records ∙ ap (λ t. t.recording.records.now) c.at_or_root.ensures.table in
+    subst (λ rs. AllByRecursion (λ i. i < length rs) run.numbers.now) same (All-from_get_or (λ i. i < length run.records.now) run.numbers.now 0 (λ k l. run.known k 0 l))

@@ -1,26 +1,22 @@
-use Rattle.std.proofs.Common.{◌<◌, ◌≢◌, length, refl, arith, get_or-set_other, get_or-set_same, below_more}
-use Rattle.std.proofs.lemmas.List.{length-set}
+use Rattle.std.proofs.Common.{◌≡◌, ℕ, ◌<◌, get_or, arith, rules}
 use Rattle.pruning.proofs.Listed.{numbered}
 use Rattle.pruning.proofs.candidates.Candidates.all.Goals as goal
 
-pub loop-k-preserved : goal.loop-k-preserved
-loop-k-preserved c =
-    let k = c.loop-k.k in
-    let lt : k < length c.loop-k.numbers = omega (arith, c.loop-k.invariant.1, c.args.centers.now.few) in
-    (below_more _ _ (λ i h. let ne : i ≢ k = omega arith in rw get_or-set_other (c.loop-k.invariant.0 i h)) (rw get_or-set_same), simp length-set c.loop-k.invariant.1)
-
 pub invariant_of-result : goal.invariant_of-result
 invariant_of-result c =
-    let same = c.loop-k.invariant.0 in
+    let made = c.from_fn.ensures.items in
+    let same : (i : ℕ) → i < 32 → get_or c.from_fn.result i 0 ≡ i = λ i h. let at = made.at i 0 h in search rules in
     let centers = c.args.centers.now in
     record {
-      long = c.loop-k.invariant.1;
+      long = made.long;
       some = centers.some;
       few = centers.few;
-      known = λ i h. omega (arith, same i (omega arith));
-      rises = λ i j h l. omega (arith, same i (omega arith), same j (omega arith));
+      known = λ i h. omega (arith, same i (omega (arith, centers.few)));
+      rises = λ i j h l. omega (arith, same i (omega (arith, centers.few)), same j (omega (arith, centers.few)));
     }
 
-pub returns : goal.returns
-returns c =
-    record { among = refl; all = λ axes. numbered axes c.args.centers.now c.loop-k.numbers c.loop-k.k c.loop-k.invariant.1 (omega arith) c.loop-k.invariant.0 }
+pub returns-clause-all : goal.returns-clause-all
+returns-clause-all c =
+    let made = c.from_fn.ensures.items in
+    let same : (i : ℕ) → i < 32 → get_or c.from_fn.result i 0 ≡ i = λ i h. let at = made.at i 0 h in search rules in
+    λ axes. numbered axes c.args.centers.now c.from_fn.result made.long same
