@@ -1,6 +1,6 @@
 -- What the tests of the rules decide.
 use Rattle.std.proofs.Common.{arith, ◌∙◌, inl, inr}
-use Rattle.std.specs.Prelude.{◌≡◌, ℕ, true, List, length, ℤ, ◌<ℤ◌, int_le, int_lt, nat_lt}
+use Rattle.std.specs.Prelude.{◌≡◌, ℕ, true, List, ℤ, ◌<ℤ◌, int_le, int_lt, nat_lt}
 use Rattle.std.proofs.lemmas.Int.{ints}
 use Rattle.std.proofs.lemmas.Bool.{lt-ltb, cond-true, cond_both}
 use Rattle.grouping.specs.Boxes.{corner}

@@ -24,7 +24,7 @@ pub(crate) fn plus(a: &Tallies, b: &Tallies) -> Tallies
     }
 }
 
-// The tallies of one record.
+// The tallies of one record. Beside those of a run: one function of both would be public, and would ask that a closure may be called.
 pub(crate) fn of_record<R: Record>(r: &R) -> Tallies
     ensures { (q : Quantity) → Tells q → told q result ≡ pos (R.Record.hold r.now) *ℤ measured q (R.Point.place r.now) }
 {
