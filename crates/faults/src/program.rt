@@ -2,26 +2,25 @@ ghost use Rattle.std.specs.Prelude.{◌≡◌, Some};
 ghost use Rattle.faults.specs.ProgramFaults.{fault_text, file_at, report_of, unread};
 
 use crate::file::FileFault;
-use crate::input_file::InputFile;
 use std::fmt;
 use value::fault::Layer;
 use value::placed::Placed;
 
-// What can be wrong with the files of the program.
+// What can be wrong with the files of the program, each by its number. A number, and no `InputFile`: a caller may number files of its own.
 #[derive(Clone, Copy)]
 pub enum ProgramFault {
     // The file cannot be opened, or not be read to its end.
-    CannotOpen { file: InputFile },
+    CannotOpen { file: usize },
     // The file is longer than 65,536 bytes.
-    TooLong { file: InputFile },
+    TooLong { file: usize },
     // The file is wrong.
-    File { file: InputFile, fault: FileFault },
+    File { file: usize, fault: FileFault },
 }
 
-impl From<Placed<InputFile, FileFault>> for ProgramFault {
+impl From<Placed<usize, FileFault>> for ProgramFault {
     ghost from_gives = { λ e r. r ≡ file_at e };
 
-    fn from(e: Placed<InputFile, FileFault>) -> ProgramFault {
+    fn from(e: Placed<usize, FileFault>) -> ProgramFault {
         ProgramFault::File {
             file: e.place,
             fault: e.fault,
@@ -34,7 +33,6 @@ impl From<Placed<InputFile, FileFault>> for ProgramFault {
 pub struct FaultReport {
     pub number: u32,
     pub layer: Layer,
-    // A number, as it is printed.
     pub file: usize,
     pub line: usize,
     pub column: usize,
@@ -42,13 +40,13 @@ pub struct FaultReport {
 
 impl FaultReport {
     // What is told of a file that is not read, under this number.
-    fn unread(number: u32, file: InputFile) -> FaultReport
+    fn unread(number: u32, file: usize) -> FaultReport
         ensures { result ≡ unread number file }
     {
         FaultReport {
             number,
             layer: Layer::Program,
-            file: file.number(),
+            file,
             line: 0,
             column: 0,
         }
@@ -66,7 +64,7 @@ impl ProgramFault {
             ProgramFault::File { file, fault } => FaultReport {
                 number: fault.number(),
                 layer: fault.layer(),
-                file: file.number(),
+                file: *file,
                 line: fault.line(),
                 column: fault.column(),
             },

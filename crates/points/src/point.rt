@@ -13,6 +13,13 @@ pub trait Point {
     fn axis(&self, k: usize) -> i16
         ensures { result ≡ slice_index_or (place self.now) k (pos 0) };
 
+    // The number of axes, where a function is asked for.
+    fn axis_count() -> usize
+        ensures { result ≡ AXES }
+    {
+        Self::AXES
+    }
+
     ghost few: { (1 ≤ AXES) × (AXES ≤ 4) };
 
     ghost sized: { (p : Self) → length (place p) ≡ AXES };

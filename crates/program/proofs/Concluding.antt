@@ -4,7 +4,6 @@ use Rattle.points.specs.declared.point.Point.{Ghosts as PointGhosts}
 use Rattle.points.specs.declared.record.Record.{Ghosts as RecordGhosts}
 use Rattle.points.specs.Entries.{entries}
 use Rattle.rows.specs.declared.kind.FileKind.{FileKind}
-use Rattle.faults.specs.declared.input_file.InputFile.TheVariants.{Centers}
 use Rattle.faults.specs.declared.program.ProgramFault.{ProgramFault}
 use Rattle.program.specs.declared.report.Report.{Report}
 use Rattle.program.specs.Answers.{Answers, GroupedFrom, KindAnswers, Settles, axes_of, both_read, centers_of, centers_refused, entry_of, first_refused, grouped, recording_refused, second_refused, start_at}
@@ -25,7 +24,7 @@ pub conclude : {R C : Type 0} (point : PointGhosts R) (record_of : RecordGhosts 
     ((c : C) → start_at (axes_of kind) centerFields c ≡ centerFields c) →
     Settles recording kind → KindAnswers point record_of kind centerKind fields centerFields recording centers answer → Answers recording centers answer
 conclude point record_of kind centerKind fields centerFields recording centers answer same axes entry start settles (first_refused h) = recording_refused settles h
-conclude point record_of kind centerKind fields centerFields recording centers answer same axes entry start settles (second_refused rs {fault = f} a h) = centers_refused settles a (subst (λ k. Refused Centers k centers f) same h)
+conclude point record_of kind centerKind fields centerFields recording centers answer same axes entry start settles (second_refused rs {fault = f} a h) = centers_refused settles a (subst (λ k. Refused 2 k centers f) same h)
 conclude point record_of kind centerKind fields centerFields recording centers answer same axes entry start settles (both_read rs cs {report = report} a b h) =
     grouped settles a (subst (λ k. Accepted k centers (map centerFields cs)) same b)
     (subst (λ starts. GroupedFrom (centers_of kind) (axes_of kind) (map (entry_of kind) (map fields rs)) starts report) (mapped_alike (start_at (axes_of kind) centerFields) centerFields start cs)

@@ -5,12 +5,11 @@ use Rattle.rows.specs.declared.kind.FileKind.{FileKind}
 use Rattle.rows.specs.Columns.{is_centers}
 use Rattle.files.specs.Format.{Outcome, most}
 use Rattle.files.proofs.Outcomes.{accepted}
-use Rattle.faults.specs.declared.input_file.InputFile.{InputFile}
 use Rattle.faults.specs.declared.program.ProgramFault.{ProgramFault}
 use Rattle.faults.specs.declared.program.ProgramFault.TheVariants.{CannotOpen, TooLong, File}
 use Rattle.program.specs.Inputs.{Accepted, Loaded, Refused, faulty, unusable}
 
-module _ {R : Type 0} (file : InputFile) (kind : FileKind) (fields : R → List ℤ) (input : Option (List ℕ)) (old new : List R) (four : length old ≡ 4096) where
+module _ {R : Type 0} (file : ℕ) (kind : FileKind) (fields : R → List ℤ) (input : Option (List ℕ)) (old new : List R) (four : length old ≡ 4096) where
   refused_at : (fault : ProgramFault) → Loaded file kind fields input old new (Err fault) → Refused file kind input fault
   refused_at (CannotOpen n) h = unusable h
   refused_at (TooLong n) h = unusable h

@@ -11,7 +11,6 @@ use Rattle.grouping.specs.declared.group.Group.{Group}
 use Rattle.grouping.specs.Distance.{Place}
 use Rattle.grouping.specs.Groups.{Tallied, places}
 use Rattle.grouping.specs.Moving.{settled_centers}
-use Rattle.faults.specs.declared.input_file.InputFile.TheVariants.{Recording, Centers}
 use Rattle.faults.specs.declared.program.ProgramFault.{ProgramFault}
 use Rattle.program.specs.declared.report.Report.{Report}
 use Rattle.program.specs.Inputs.{Accepted, Refused}
@@ -34,8 +33,8 @@ start_at axes fields c = take axes (padded (fields c))
 
 -- what is answered where the kind of the records is known, over the records and center rows themselves
 pub data KindAnswers {R C : Type 0} (point : PointGhosts R) (record_of : RecordGhosts R) (kind centerKind : FileKind) (fields : R → List ℤ) (centerFields : C → List ℤ) (recording centers : Option (List ℕ)) : Result Report ProgramFault → Type 0 where
-  first_refused : {fault : ProgramFault} → Refused Recording kind recording fault → KindAnswers point record_of kind centerKind fields centerFields recording centers (Err fault)
-  second_refused : (rs : List R) {fault : ProgramFault} → Accepted kind recording (map fields rs) → Refused Centers centerKind centers fault → KindAnswers point record_of kind centerKind fields centerFields recording centers (Err fault)
+  first_refused : {fault : ProgramFault} → Refused 1 kind recording fault → KindAnswers point record_of kind centerKind fields centerFields recording centers (Err fault)
+  second_refused : (rs : List R) {fault : ProgramFault} → Accepted kind recording (map fields rs) → Refused 2 centerKind centers fault → KindAnswers point record_of kind centerKind fields centerFields recording centers (Err fault)
   both_read : (rs : List R) (cs : List C) {report : Report} → Accepted kind recording (map fields rs) → Accepted centerKind centers (map centerFields cs) → GroupedFrom centerKind point.AXES (entries point record_of rs) (map (start_at point.AXES centerFields) cs) report → KindAnswers point record_of kind centerKind fields centerFields recording centers (Ok report)
 
 -- ---- the program
@@ -71,6 +70,6 @@ Settles input TelegramCenters = ⊥
 -- The recording is looked at before the centers. A fault is the first of its file. Where both files are accepted, the report is of
 -- the records that the first spells, grouped around the centers that the second spells.
 pub data Answers (recording centers : Option (List ℕ)) : Result Report ProgramFault → Type 0 where
-  recording_refused : {kind : FileKind} {fault : ProgramFault} → Settles recording kind → Refused Recording kind recording fault → Answers recording centers (Err fault)
-  centers_refused : {kind : FileKind} {rows : List (List ℤ)} {fault : ProgramFault} → Settles recording kind → Accepted kind recording rows → Refused Centers (centers_of kind) centers fault → Answers recording centers (Err fault)
+  recording_refused : {kind : FileKind} {fault : ProgramFault} → Settles recording kind → Refused 1 kind recording fault → Answers recording centers (Err fault)
+  centers_refused : {kind : FileKind} {rows : List (List ℤ)} {fault : ProgramFault} → Settles recording kind → Accepted kind recording rows → Refused 2 (centers_of kind) centers fault → Answers recording centers (Err fault)
   grouped : {kind : FileKind} {rows starts : List (List ℤ)} {report : Report} → Settles recording kind → Accepted kind recording rows → Accepted (centers_of kind) centers starts → GroupedFrom (centers_of kind) (axes_of kind) (map (entry_of kind) rows) starts report → Answers recording centers (Ok report)

@@ -1,3 +1,4 @@
+ghost use Rattle.faults.specs.InputFiles.{number_of};
 ghost use Rattle.program.specs.Inputs.{Loaded, bytes_of, Admitted};
 
 use faults::input_file::InputFile;
@@ -11,11 +12,15 @@ pub(crate) const LONGEST: usize = 65536;
 
 // The bytes of a file, if it could be opened and is not too long.
 fn admit<'a>(file: InputFile, input: Option<&'a [u8]>) -> Result<&'a [u8], ProgramFault>
-    ensures { Admitted file (bytes_of input.entry) result }
+    ensures { Admitted (number_of file) (bytes_of input.entry) result }
 {
-    let bytes = input.ok_or(ProgramFault::CannotOpen { file })?;
+    let bytes = input.ok_or(ProgramFault::CannotOpen {
+        file: file.number(),
+    })?;
     if bytes.len() > LONGEST {
-        return Err(ProgramFault::TooLong { file });
+        return Err(ProgramFault::TooLong {
+            file: file.number(),
+        });
     }
     Ok(bytes)
 }
@@ -26,8 +31,8 @@ pub(crate) fn load<R: Row>(
     input: Option<&[u8]>,
     table: &mut [R],
 ) -> Result<usize, ProgramFault>
-    ensures { Loaded file R.KIND R.fields (bytes_of input.entry) table.old table.new result }
+    ensures { Loaded (number_of file) R.KIND R.fields (bytes_of input.entry) table.old table.new result }
 {
     let bytes = admit(file, input)?;
-    Ok(place_at(read_table(bytes, table), file)?)
+    Ok(place_at(read_table(bytes, table), file.number())?)
 }
