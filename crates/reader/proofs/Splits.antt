@@ -32,7 +32,7 @@ onto_lack b [] ne h = (lacks_front b [] ne (λ k l e. omega arith), h)
 onto_lack b (f ∷ fs) ne h = (lacks_front b f ne h.0, h.1)
 
 -- no field has a comma
-fields_lack : (text : List ℕ) → AllByRecursion (Lacks 44) (fields_of text)
+pub fields_lack : (text : List ℕ) → AllByRecursion (Lacks 44) (fields_of text)
 fields_lack [] = (λ k l e. omega arith, tt)
 fields_lack (b ∷ bs) =
     cond_both (eqb b 44) ([] ∷ fields_of bs) (onto_first b (fields_of bs)) (AllByRecursion (Lacks 44))

@@ -45,6 +45,11 @@ LineStep r (Ok u) s = LineEnds r s
 LineStep r (Err Unended) s = (0 < length (next_bytes r)) × Lacks 10 (next_bytes r) × (s ≡ r)
 LineStep r (Err Missing) s = (next_bytes r ≡ []) × (s ≡ r)
 
+-- the field that is taken for a name or a value
+abbrev pub field_of : Token → Field
+field_of (Name field) = field
+field_of (Value field) = field
+
 -- the field is the first that r has left, with its place, and s has the others left
 pub record Lent (r : Reader) (field : Field) (s : Reader) : Type 0 where
   pub first : fields_left r ≡ field.bytes.now ∷ fields_left s

@@ -1,3 +1,6 @@
+ghost use Rattle.std.specs.Prelude.{◌≡◌};
+ghost use Rattle.reader.specs.Steps.{field_of};
+
 // A part of the file, with its place: the line, and its number among the parts of that line, both from 1.
 #[derive(Clone, Copy)]
 pub struct Field<'a> {
@@ -11,4 +14,15 @@ pub struct Field<'a> {
 pub enum Token<'a> {
     Name(Field<'a>),
     Value(Field<'a>),
+}
+
+impl<'a> Token<'a> {
+    // The field, whatever it is taken for.
+    pub fn field(self) -> Field<'a>
+        ensures { result ≡ field_of self.entry }
+    {
+        match self {
+            Token::Name(field) | Token::Value(field) => field,
+        }
+    }
 }

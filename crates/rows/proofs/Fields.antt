@@ -2,8 +2,9 @@
 use Rattle.std.proofs.Common.{◌≡◌, ℕ, Option, Some, None, refl, ◌+◌, ◌<◌, List, [], ◌∷◌, length, get_or, drop, inl, inr}
 use Rattle.std.specs.Prelude.{IsSome}
 use Rattle.reader.specs.declared.cursor.Reader.{Reader}
-use Rattle.reader.specs.declared.token.Field.{Field}
-use Rattle.reader.specs.Steps.{FieldLent, fields_left}
+use Rattle.reader.specs.declared.token.Token.{Token}
+use Rattle.reader.specs.declared.token.Token.TheVariants.{Name, Value}
+use Rattle.reader.specs.Steps.{Lent, NameLent, ValueLent, field_of, fields_left}
 use Rattle.std.proofs.lemmas.List.{drop_more, drop_all}
 use Rattle.std.proofs.lemmas.Bool.{cases_lt}
 
@@ -14,7 +15,16 @@ next_field fields k field rest e =
       | inr l ↦ let d = drop_all k fields l in cc
     ]
 
+-- what the reader says of a token that it lends as a name, and as a value
+pub name_lent : (r : Reader) (t : Token) (s : Reader) → NameLent r (Some t) s → Lent r (field_of t) s
+name_lent r (Name field) s h = h
+name_lent r (Value field) s h = absurd h
+
+pub value_lent : (r : Reader) (t : Token) (s : Reader) → ValueLent r (Some t) s → Lent r (field_of t) s
+value_lent r (Name field) s h = absurd h
+value_lent r (Value field) s h = h
+
 -- as long as fields are left, the reader lends one
-pub field_there : (fields : List (List ℕ)) (k : ℕ) (r s : Reader) (o : Option Field) → FieldLent r o s → drop k fields ≡ fields_left r → k < length fields → IsSome o
-field_there fields k r s None h e l = let d = drop_more fields k [] l in let none = h.0 in cc
-field_there fields k r s (Some f) h e l = refl
+pub value_there : (fields : List (List ℕ)) (k : ℕ) (r s : Reader) (o : Option Token) → ValueLent r o s → drop k fields ≡ fields_left r → k < length fields → IsSome o
+value_there fields k r s None h e l = let d = drop_more fields k [] l in let none = h.0 in cc
+value_there fields k r s (Some t) h e l = refl

@@ -20,7 +20,7 @@ fn read_name(reader: &mut Reader<'_>, kind: FileKind) -> Option<usize>
     requires { 0 < length (fields_left reader.old) }
     ensures { NameRead kind reader.old reader.new result }
 {
-    let field = reader.field()?;
+    let field = reader.name()?.field();
     column_named(kind, Name::read(field.bytes)?)
 }
 

@@ -28,7 +28,7 @@ pub fn read_values(reader: &mut Reader<'_>, order: &Order) -> Result<[i32; 4], R
     }
     let mut values = [0; 4];
     for c in order.columns() {
-        let field = reader.field().unwrap();
+        let field = reader.value().unwrap().field();
         values[*c] = columns[*c].read_at(field)?;
     }
     Ok(values)

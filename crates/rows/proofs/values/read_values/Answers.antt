@@ -1,22 +1,27 @@
 use Rattle.std.proofs.Common.{◌≡◌, ◌+◌, ◌<◌, length, get_or, set, sym, ap, ◌∙◌, subst, arith, w32, to_z, of_z}
 use Rattle.std.proofs.lemmas.List.{length-set}
 use Rattle.std.proofs.lemmas.Result.{err_from_is_err_and}
-use Rattle.reader.specs.Steps.{fields_left}
+use Rattle.reader.specs.Steps.{Lent, fields_left}
 use Rattle.rows.specs.Columns.{width}
 use Rattle.rows.specs.Lines.{columns_in}
-use Rattle.rows.proofs.Fields.{next_field, field_there}
+use Rattle.rows.proofs.Fields.{next_field, value_lent, value_there}
 use Rattle.rows.proofs.Spelled.{ReadSofar, one_read, right_before, range_read, cell_right, cell_wrong, all_cells, all_fit, order_once}
 use Rattle.rows.proofs.values.read_values.Goals as goal
+use Rattle.rows.proofs.values.read_values.Goals.{After-field-field}
 
-pub unwrap-field-requires : goal.unwrap-field-requires
-unwrap-field-requires c =
+-- what the reader said of the field that a turn takes
+lent_to : (c : After-field-field) → Lent c.loop-c.reader c.field-field.result c.value.new.self
+lent_to c = subst (λ field. Lent c.loop-c.reader field c.value.new.self) (sym c.field-field.ensures) (value_lent _ c.unwrap.result _ (rw c.unwrap.ensures at c.value.ensures))
+
+pub unwrap-requires : goal.unwrap-requires
+unwrap-requires c =
     let each = order_once c.args.order.now in
-    field_there (fields_left c.args.reader.now) c.loop-c.c-index c.loop-c.reader c.field.new.self c.field.result c.field.ensures c.loop-c.invariant.left (omega (arith, each.long, ap length c.columns-c-items.ensures, c.if-fields_left-columns.false, c.fields_left.ensures, ap length c.columns-columns.ensures))
+    value_there (fields_left c.args.reader.now) c.loop-c.c-index c.loop-c.reader c.value.new.self c.value.result c.value.ensures c.loop-c.invariant.left (omega (arith, each.long, ap length c.columns-c-items.ensures, c.if-fields_left-columns.false, c.fields_left.ensures, ap length c.columns-columns.ensures))
 
 pub returns-in_err-values-clause-values : goal.returns-in_err-values-clause-values
 returns-in_err-values-clause-values c =
     let p = err_from_is_err_and c.from_residual.result c.from_residual.ensures.1 in
-    let lent = rw c.unwrap-field.ensures at c.field.ensures in
+    let lent = lent_to (goal.at.returns-in_err-values-clause-values c).After-field-field in
     let step = next_field _ c.loop-c.c-index _ _ (c.loop-c.invariant.left ∙ lent.first) in
     let order = c.args.order.now in
     let each = order_once order in
@@ -30,7 +35,7 @@ returns-in_err-values-clause-values c =
 
 pub loop-c-preserved : goal.loop-c-preserved
 loop-c-preserved c =
-    let lent = rw c.unwrap-field.ensures at c.field.ensures in
+    let lent = lent_to (goal.at.loop-c-preserved c).After-field-field in
     let step = next_field _ c.loop-c.c-index _ _ (c.loop-c.invariant.left ∙ lent.first) in
     let order = c.args.order.now in
     let each = order_once order in
