@@ -45,11 +45,28 @@ fn read(rt: &HostRuntime, path: &str, buffer: &mut [u8]) -> Option<usize>
 }
 
 impl Input {
+    // No file yet.
+    pub fn empty() -> Input
+        ensures { result.count ≡ None }
+    {
+        Input {
+            buffer: [0; BUFFER],
+            count: None,
+        }
+    }
+
+    // Becomes the file of that name, read in place: a buffer that is handed back would lie on the stack once more.
+    pub fn read(&mut self, rt: &HostRuntime, path: &str)
+        ensures { IfSome self.new.count (λ n. n ≤ 65537) }
+    {
+        self.count = read(rt, path, &mut self.buffer);
+    }
+
     // The file of that name.
     pub fn load(rt: &HostRuntime, path: &str) -> Input {
-        let mut buffer = [0u8; BUFFER];
-        let count = read(rt, path, &mut buffer);
-        Input { buffer, count }
+        let mut input = Input::empty();
+        input.read(rt, path);
+        input
     }
 
     // The bytes of the file.

@@ -6,7 +6,9 @@ use console::show::show;
 use program::run::run;
 
 fn main(rt: HostRuntime) -> anyhow::Result<()> {
-    let recording = Input::load(&rt, RECORDING);
-    let centers = Input::load(&rt, CENTERS);
+    let mut recording = Input::empty();
+    let mut centers = Input::empty();
+    recording.read(&rt, RECORDING);
+    centers.read(&rt, CENTERS);
     show(&rt, run(recording.bytes(), centers.bytes()))
 }
