@@ -1,16 +1,11 @@
 -- What the decimal text of a number looks like, and what digits write.
-use Rattle.std.proofs.Common.{◌≡◌, ℕ, zero, suc, ◌^◌, ◌<◌, ◌≤◌, List, [], ◌∷◌, length, get_or, drop, ℤ, pos, negsuc, decimal, None, Ok, Err, Result, sym, ap, ◌∙◌, subst, ⊎_elim, arith}
-use Rattle.std.specs.Str.Parse.{AllDigits, ParsesUnsigned, digits_value}
+use Rattle.std.proofs.Common.{◌≡◌, ℕ, zero, suc, ◌^◌, ◌<◌, ◌≤◌, List, [], ◌∷◌, length, get_or, drop, ℤ, pos, negsuc, decimal, sym, ap, ◌∙◌, subst, ⊎_elim, arith}
+use Rattle.std.specs.Str.Parse.{AllDigits, digits_value}
 use Rattle.std.specs.Int.{IsInRange}
-use Rattle.std.specs.Str.{IsUtf8}
-use Rattle.std.specs.Option.{MatchOption}
-use Rattle.std.specs.Result.{MatchResult, result_ok}
 use Rattle.std.proofs.str.Laws.{order}
 use Rattle.std.proofs.lemmas.List.{ext_get_or}
-use Rattle.std.proofs.lemmas.Option.{none-some}
-use Rattle.std.proofs.lemmas.Str.Parse.{IsNumeralModel, digits_value_short, numerals_by_value, parse_plain, tells_digits, digit_at}
-use Rattle.std.proofs.lemmas.Fmt.{IsAscii-from_digits, decimal_digit, decimal_nonempty, first_decimal, digits_decimal, decimal-digits_value}
-use Rattle.std.proofs.lemmas.Str.{IsUtf8-from_ascii}
+use Rattle.std.proofs.lemmas.Str.Parse.{IsNumeralModel, digits_value_short, numerals_by_value, tells_digits, digit_at}
+use Rattle.std.proofs.lemmas.Fmt.{decimal_digit, decimal_nonempty, first_decimal, digits_decimal, decimal-digits_value}
 use Rattle.value.specs.Spelling.{Writes, Spells}
 
 pub own : IsNumeralModel (AllDigits 10) (digits_value 10)
@@ -39,20 +34,6 @@ written ds h some short first =
       some = ⊎_elim (λ p. p) (λ p. let z : digits_value 10 ds ≡ 0 = omega arith in let f : get_or ds 0 0 ≡ 48 = ap (λ l. get_or l 0 0) (sym back ∙ ap decimal z ∙ decimal_digit 0 (omega arith)) in absurd (omega arith)) (order 0 (digits_value 10 ds));
       small = small;
     }
-
--- what the parse of a text says of the number that it writes, where the text begins with a digit other than 0
-pub parsed : {E : Type 0} (ds : List ℕ) (r : Result ℕ E) → ParsesUnsigned 32 10 ds r → length ds ≤ 6 → 48 < get_or ds 0 0 → get_or ds 0 0 ≤ 57 → MatchOption (result_ok r) ((n : ℕ) → Writes ds n → ⊥) (λ n. Writes ds n)
-parsed {E} ds (Ok n) h short low high = let p = parse_plain own {E = E} 32 ds (Ok n) h (λ e. omega arith) in subst (Writes ds) (sym p.1) (written ds p.0.0 p.0.1 short low)
-parsed {E} ds (Err e) h short low high = λ n w. let p = parse_plain own {E = E} 32 ds (Err e) h (λ e. omega arith) in p (digits_of ds n w, some_of ds n w, omega (arith, digits_value_short own ds 6 (digits_of ds n w) short))
-
--- the digits of a number are text
-pub text_of : (ds : List ℕ) (n : ℕ) → Writes ds n → IsUtf8 ds
-text_of ds n w = IsUtf8-from_ascii ds (IsAscii-from_digits ds (digits_of ds n w))
-
--- nothing that is no text is digits
-pub not_text : {A E : Type 0} (P : A → Type 0) (Q : E → Type 0) (bs : List ℕ) (r : Result A E) → MatchResult r P (λ e. (IsUtf8 bs → ⊥) × Q e) → None ≡ result_ok r → IsUtf8 bs → ⊥
-not_text P Q bs (Ok s) h e = absurd (none-some s e)
-not_text P Q bs (Err e) h _ = h.0
 
 -- the byte 0 spells the value 0
 pub zero_spells : (bs : List ℕ) → get_or bs 0 0 ≡ 48 → length bs ≡ 1 → Spells bs (pos 0)

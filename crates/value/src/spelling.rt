@@ -7,7 +7,7 @@ use crate::fault::ValueFault;
 const LONGEST: usize = 6;
 
 // The number that a digit 1 to 9 and further digits write, if they write one.
-#[tactic(auto, using(crate::proofs::Shapes::some_of, crate::proofs::Shapes::first_of, crate::proofs::Shapes::digit_of, crate::proofs::Shapes::parsed))]
+#[tactic(auto, using(crate::proofs::Shapes::some_of, crate::proofs::Shapes::first_of, crate::proofs::Shapes::digit_of))]
 fn magnitude(digits: &[u8]) -> Option<u32>
     requires { length digits.now ≤ 6 }
     ensures { MatchOption result ((n : ℕ) → Writes digits.now n → ⊥) (λ n. Writes digits.now n) }
@@ -15,7 +15,11 @@ fn magnitude(digits: &[u8]) -> Option<u32>
     let [b'1'..=b'9', ..] = digits else {
         return None;
     };
-    str::from_utf8(digits).ok()?.parse().ok()
+    // The library's `parse` takes twice the time: it tests the bytes as text first, and takes any radix.
+    digits.iter().try_fold(0, |n, d| match d {
+        b'0'..=b'9' => Some(n * 10 + (*d - b'0') as u32),
+        _ => None,
+    })
 }
 
 // The value that the bytes spell, if they spell one.
