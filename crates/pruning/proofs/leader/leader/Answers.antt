@@ -7,8 +7,6 @@ use Rattle.numbers.proofs.Firsts.{first_least}
 use Rattle.numbers.proofs.Ring.{lin}
 use Rattle.grouping.specs.Boxes.{near}
 use Rattle.grouping.specs.Choice.{center}
-use Rattle.grouping.specs.Groups.{place_of}
-use Rattle.pruning.specs.declared.contender.Contender.{Contender}
 use Rattle.pruning.specs.Candidates.{listed, among}
 use Rattle.pruning.specs.Positions.{lows_of, highs_of}
 use Rattle.pruning.proofs.Listed.{candidates_fit}
@@ -25,8 +23,8 @@ returns-clause-leads c =
     let h = first_least _ _ key _ (λ i z f' l k.
     let m : i < length ks = omega (arith, c.count.ensures.is) in
     let same : f' ≡ (c.args.region, c.args.candidates) = search rules in
-    let is : (x : Contender) × (x.number ≡ get_or ks i 0) × (place_of r.axes x.position ≡ center cs x.number) × (z ≡ near (lows_of r) (highs_of r) (place_of r.axes x.position)) = search rules in
-    (same, is.3 ∙ ap (near (lows_of r) (highs_of r)) (is.2 ∙ ap (center cs) is.1))) _ _ refl c.min_by_key.ensures.ran in
+    let is : z ≡ key i = search rules in
+    (same, is)) _ _ refl c.min_by_key.ensures.ran in
     let f = MatchOption-at_some _ _ c.unwrap-first.result c.unwrap-first.ensures h in
     let there : c.unwrap-first.result < length ks = omega (arith, c.count.ensures.is, f.there) in
     let at = c.get.ensures.at there in

@@ -1,4 +1,4 @@
-use Rattle.std.proofs.Common.{sym, ◌∙◌, inl, inr}
+use Rattle.std.proofs.Common.{sym, ◌∙◌, inl, inr, arith}
 use Rattle.std.proofs.lemmas.Bool.{eqb-true, eqb-false}
 use Rattle.boxes.specs.Regions.{cut_by}
 use Rattle.boxes.proofs.Sides.{counted_run, one_sided, two_sided}
@@ -21,6 +21,6 @@ returns-else-lower-eq0 g c =
     let there = box_there t b c.args.self.there in
     let lower = counted_run t b c.args.cut.now _ _ _ c.count_below-lower.ensures c.run.ensures.records c.run.ensures.numbers in
     record {
-      yes = λ e. one_sided t cut there g.R.Point.AXES (inr (sym lower ∙ eqb-true _ _ e ∙ c.size.ensures));
-      no = λ e. two_sided t cut there g.R.Point.AXES (λ z. c.if-lower-eq0.false (lower ∙ z)) (λ z. eqb-false _ _ e (lower ∙ z ∙ sym c.size.ensures));
+      yes = λ e. one_sided t cut there g.R.Point.AXES (inr (omega (arith, eqb-true _ _ e)));
+      no = λ e. two_sided t cut there g.R.Point.AXES (λ z. c.if-lower-eq0.false (lower ∙ z)) (λ z. eqb-false _ _ e (omega arith));
     }
