@@ -32,7 +32,7 @@ kept_parts t (x ∷ xs) = one (t x) (kept_parts t xs)
     one false e = omega arith
 
 -- no more lie below than there are
-lower_within : (es : List Entry) (c : Cut) (n : BoxNode) (order : List ℕ) → n.to ≤ length order → lower es c n order ≤ n.to - n.from
+pub lower_within : (es : List Entry) (c : Cut) (n : BoxNode) (order : List ℕ) → n.to ≤ length order → lower es c n order ≤ n.to - n.from
 lower_within es c n order l = omega (arith, kept_parts (under es c) (between n.from n.to order), length-between order n.from n.to l)
 
 empty : {X : Type 0} (xs : List X) → length xs ≡ 0 → xs ≡ []
@@ -55,10 +55,10 @@ module _ {R : Type 0} {kindP : PointGhosts R} {kindR : RecordGhosts R} (t : BoxT
   counted_run b c rs ns n e r m = e ∙ ap₂ (λ xs is. length (filter (under (entries kindP kindR xs) c) is)) r m
 
   module _ (c : Cut) (stood : c.parent < boxes_after (cuts_of t)) where
-    lower_count : length (lower_side (cuts_of t) c (entries_of t)) ≡ lower (entries_of t) c (node_at t.nodes c.parent) t.order
+    pub lower_count : length (lower_side (cuts_of t) c (entries_of t)) ≡ lower (entries_of t) c (node_at t.nodes c.parent) t.order
     lower_count = kept_same (λ e. below c e.place) _ _ (box_same c.parent stood) ∙ kept_map (λ e. below c e.place) (λ i. entry_at (entries_of t) i) (run_of t c.parent)
 
-    both_count : length (lower_side (cuts_of t) c (entries_of t)) + length (upper_side (cuts_of t) c (entries_of t)) ≡ length (contents (cuts_of t) c.parent (entries_of t))
+    pub both_count : length (lower_side (cuts_of t) c (entries_of t)) + length (upper_side (cuts_of t) c (entries_of t)) ≡ length (contents (cuts_of t) c.parent (entries_of t))
     both_count = kept_parts (λ e. below c e.place) (contents (cuts_of t) c.parent (entries_of t))
 
     pub one_sided : (axes : ℕ) → (lower (entries_of t) c (node_at t.nodes c.parent) t.order ≡ 0) ⊎ (lower (entries_of t) c (node_at t.nodes c.parent) t.order ≡ length (contents (cuts_of t) c.parent (entries_of t))) → Against axes (entries_of t) (cuts_of t) c OneSided

@@ -53,7 +53,7 @@ pub number_of : (n : ℕ) (p : Position) (j : ℕ) → j < n → number (place_o
 number_of n p j h = get_or-take n (position_place p) j (pos 0) h
 
 -- positions that differ on one of the first n axes are two places
-places_apart : (n : ℕ) (p q : Position) (j : ℕ) → j < n → (number (position_place p) j ≡ number (position_place q) j → ⊥) → place_of n p ≡ place_of n q → ⊥
+pub places_apart : (n : ℕ) (p q : Position) (j : ℕ) → j < n → (number (position_place p) j ≡ number (position_place q) j → ⊥) → place_of n p ≡ place_of n q → ⊥
 places_apart n p q j h apart e = apart (sym (number_of n p j h) ∙ ap (λ z. number z j) e ∙ number_of n q j h)
 
 -- what a test of the first n axes says of the places

@@ -40,7 +40,7 @@ from_more f xs i d l =
     ap (summed_from f 0) (take_more xs i d l) ∙ from_push f 0 (take i xs) (get_or xs i d) ∙ ap (λ j. summed_from f 0 (take i xs) +ℤ f j (get_or xs i d)) n
 
 -- the code's turn: what is added is congruent to the next element
-turn_wrapped : {X : Type 0} (f : ℕ → X → ℤ) (xs : List X) (i : ℕ) (d : X) (base old y new : ℤ) → i < length xs → int_wrap w64 old ≡ int_wrap w64 (base +ℤ summed_from f 0 (take i xs)) → int_wrap w64 y ≡ int_wrap w64 (f i (get_or xs i d)) → new ≡ int_wrap w64 (old +ℤ y) →
+pub turn_wrapped : {X : Type 0} (f : ℕ → X → ℤ) (xs : List X) (i : ℕ) (d : X) (base old y new : ℤ) → i < length xs → int_wrap w64 old ≡ int_wrap w64 (base +ℤ summed_from f 0 (take i xs)) → int_wrap w64 y ≡ int_wrap w64 (f i (get_or xs i d)) → new ≡ int_wrap w64 (old +ℤ y) →
     int_wrap w64 new ≡ int_wrap w64 (base +ℤ summed_from f 0 (take (i + 1) xs))
 turn_wrapped f xs i d base old y new l a b c =
     let s = base +ℤ summed_from f 0 (take i xs) in
